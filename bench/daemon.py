@@ -17,7 +17,7 @@ syslogr syncs its stores, and syslog-ng none of its files: where gcc is installe
 What a run of one record takes is taken off the times, so that the figures are those of the records alone; the table
 shows it as the start. It stays in where it is more than half of the whole. The jobs that end short of their aim, in
 records a second, are marked, and the script then ends with status 1. Processor time tells more where the machine
-does other work too.
+does other work too. MiB is the most memory that was seen in a run, each hundredth of a second.
 """
 import argparse
 import hashlib
@@ -270,6 +270,30 @@ def processor_seconds(process):
     return time.clock_gettime((~process << 3) | 2)
 
 
+class Peak(threading.Thread):
+    """The most memory that a process was seen to hold."""
+
+    def __init__(self, process):
+        super().__init__(daemon=True)
+        self.status, self.kib = "/proc/%d/status" % process, 0
+        self.start()
+
+    def run(self):
+        while kib := self.held():
+            self.kib = max(self.kib, kib)
+            time.sleep(0.01)
+
+    def held(self):
+        """The most so far, in KiB; 0 once it has ended."""
+        try:
+            return next((int(line.split()[1]) for line in read(self.status).split(b"\n") if line.startswith(b"VmHWM:")), 0)
+        except OSError:
+            return 0
+
+    def mib(self):
+        return self.kib / 1024
+
+
 class Run:
     """One run of one program for a job, in a folder of its own."""
 
@@ -308,6 +332,7 @@ class Run:
         start = time.monotonic()
         settings = dict({"GLIBC_TUNABLES": TUNABLES}, **({"LD_PRELOAD": preload} if preload else {}))
         child = self.start([program, "run", "conf", "--once"], settings)
+        peak = Peak(child.pid)
         self.feed()
         timer = threading.Timer(LIMIT, child.kill)
         timer.start()
@@ -321,10 +346,10 @@ class Run:
             self.fail("syslogr ended with %d" % child.returncode)
         if self.job.peer == "away":
             store = next(name for name in os.listdir(self.folder) if name.startswith("queue-"))
-            said = subprocess.run([program, "spool", store], cwd=self.folder, stdout=subprocess.PIPE).stdout
+            said = subprocess.run([program, "spool", store], cwd=self.folder, stdout=subprocess.PIPE, stderr=subprocess.DEVNULL).stdout
             if not said.endswith(b"entries %d\n" % self.count):
                 self.fail("syslogr's disk-buffer hasn't all")
-        return took, used.ru_utime + used.ru_stime
+        return took, used.ru_utime + used.ru_stime, peak.mib()
 
     def syslog_ng(self):
         self.configure("current")
@@ -334,13 +359,14 @@ class Run:
         whole = self.count if self.job.peer else sum(self.outputs.values())
         start = time.monotonic()
         child = self.start(words)
+        peak = Peak(child.pid)
         try:
             self.feed()
             while meter.count() < whole:
                 if time.monotonic() - start > LIMIT or child.poll() is not None:
                     self.fail("syslog-ng has delivered %d of %d" % (meter.count(), whole))
                 time.sleep(0.005)
-            return time.monotonic() - start, processor_seconds(child.pid)
+            return time.monotonic() - start, processor_seconds(child.pid), peak.mib()
         finally:
             if child.poll() is None:
                 child.send_signal(signal.SIGTERM)
@@ -390,18 +416,18 @@ def same(mine, theirs):
 
 
 class Figures:
-    """Times of one program for one job, of all records and of the fewest."""
+    """Times and memory of one program for one job, of all records and of the fewest."""
 
     def __init__(self):
         self.all, self.few = [], []
 
     def told(self, count, fewest):
-        """Records a second, microseconds of the processor a record, and the start's milliseconds, of the clock and of the processor."""
-        wall, used = (min(times) for times in zip(*self.all))
-        wall_few, used_few = (min(times) for times in zip(*self.few))
+        """Records a second, microseconds of the processor a record, MiB, and the start's milliseconds, of the clock and of the processor."""
+        wall, used, mib = (min(times) for times in zip(*self.all))
+        wall_few, used_few, _ = (min(times) for times in zip(*self.few))
         more = count - fewest
         net = wall - wall_few if wall_few < wall / 2 else wall
-        return more / net, (used - used_few) / more * 1e6, wall_few * 1e3, used_few * 1e3
+        return more / net, (used - used_few) / more * 1e6, mib, wall_few * 1e3, used_few * 1e3
 
 
 def measured(job, options, preload, folder):
@@ -432,7 +458,7 @@ def measured(job, options, preload, folder):
 
 
 def shown(figures):
-    return "%9.0f %7.2f %5.0f %5.0f" % figures if figures else "%9s %7s %5s %5s" % ("-", "-", "-", "-")
+    return "%9.0f %7.2f %5.0f %5.0f %5.0f" % figures if figures else "%9s %7s %5s %5s %5s" % (("-",) * 5)
 
 
 def without_syncs(folder):
@@ -470,9 +496,9 @@ def main():
     good = True
     with tempfile.TemporaryDirectory(prefix="syslogr-bench-") as temporary:
         preload = without_syncs(temporary)
-        head = "%9s %7s %5s %5s" % ("records/s", "µs each", "start", "of it")
+        head = "%9s %7s %5s %5s %5s" % ("records/s", "µs each", "MiB", "start", "of it")
         print("%d MiB of records of %d bytes; starts in milliseconds, and what the processor had of them" % (options.mib, options.length))
-        print("%-17s | %-29s | %-29s | %-30s |" % ("", "syslogr", "syslog-ng", "syslogr / syslog-ng"))
+        print("%-17s | %-35s | %-35s | %-30s |" % ("", "syslogr", "syslog-ng", "syslogr / syslog-ng"))
         print("%-17s | %s | %s | %7s %8s %7s %5s | %s" % ("job", head, head, "rate", "unsynced", "µs each", "aim  ", "outputs"))
         for job in chosen:
             figures, compared = measured(job, options, preload, os.path.abspath(options.keep or temporary))

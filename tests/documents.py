@@ -135,7 +135,7 @@ for row in rows.split("\n"):
     names, told = row.split("|", 1)
     held = " ".join(cell[0] for cell in cells if len(cell) == 2 and cell[1] == told)
     expect(f"remedy {told[:30]} in MIGRATION.md", [name for name in names.split() if not re.search(rf"(?<![\w-]){name}(?![\w-])", held)])
-for name in ["COMPARED", "VERSION", "QUOTED", "INCLUDED"]:
+for name in ["COMPARED", "VERSION", "QUOTED", "INCLUDED", "LIBRARY"]:
     told = re.search(rf'const {name}: &\[u8\] =\s*b"(.*?)";', remedies).group(1)
     expect(f"remedy {name} in MIGRATION.md", [told for _once in [0] if not any(len(cell) == 2 and cell[1] == told for cell in cells)])
 ranges = re.search(r'const RANGES: &\[u8\] =\s*b"(.*?)";', read("crates/sg_notes/src/ranges.rt"), re.S).group(1)
@@ -143,6 +143,9 @@ for row in ranges.split("\n"):
     names, told = row.split("|", 1)
     if re.match(r"\d+ to [\d,]+$", told):
         expect(f"range of {names} in CONFIGURATION.md", [name for name in names.split() if not re.search(rf"^\|[^|]*`{name}`[^|]*\| {re.escape(told)}", configuration, re.M)])
+limits = re.findall(r'^const \w+: &\[u8\] =\s*b"(.*?)";', read("crates/sg_notes/src/limits.rt"), re.M | re.S)
+faults = " ".join(re.findall(r"^\| `(?:too many|too many offers|pattern too large)` .*$", configuration, re.M)) + configuration.split("A regular expression is compiled once")[1][:400]
+expect("numbers of the notes on limits in CONFIGURATION.md", [n for told in limits for n in re.findall(r"[\d,]*\d", told) if not re.search(rf"(?<![\d,]){n}(?![\d,]*\d)", faults)])
 
 
 def headings_of(path):

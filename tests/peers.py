@@ -1,8 +1,11 @@
 #!/usr/bin/env python3
 """The program beside peers that don't answer, don't read or read slowly, over connections of this machine.
 
-tests/peers.py [PROGRAM]   each of them beside a path from file to file, whose time is compared; by default the program that is proved"""
-import os, select, socket, subprocess, sys, tempfile, threading, time
+tests/peers.py [PROGRAM]   each of them beside a path from file to file, whose time is compared; by default the program that is proved
+
+Also a peer behind a line of 100 ms, one that takes no byte, ones that close the connection, and a connection for which there is no
+memory, which needs a C compiler (tests/starve.c)."""
+import collections, os, select, shutil, socket, struct, subprocess, sys, tempfile, threading, time
 
 TOP = os.path.dirname(os.path.dirname(os.path.abspath(__file__)))
 PROGRAM = os.path.join(TOP, "crates/sg_top/out/sg_top")
@@ -20,8 +23,10 @@ def check(name, good, text=""):
 class Peer:
     """A listener, and what becomes of its connections: a function of a socket, or None where nobody accepts them."""
 
-    def __init__(self, serve, backlog=128):
+    def __init__(self, serve, backlog=128, room=None):
         self.listener = socket.socket()
+        if room:
+            self.listener.setsockopt(socket.SOL_SOCKET, socket.SO_RCVBUF, room)
         self.listener.bind(("127.0.0.1", 0))
         self.listener.listen(backlog)
         self.port = self.listener.getsockname()[1]
@@ -89,9 +94,10 @@ def config(folder, text):
         file.write("@version: 4.2\n" + text)
 
 
-def start(program, folder, stderr=None):
+def start(program, folder, stderr=None, words=(), environment=None):
     errors = stderr or open(os.path.join(folder, "errors"), "wb")
-    return subprocess.Popen([program, "run", "conf"], cwd=folder, stdout=subprocess.DEVNULL, stderr=errors)
+    how = {"env": {**os.environ, **(environment or {})}, "stdout": subprocess.DEVNULL, "stderr": errors}
+    return subprocess.Popen([program, "run", "conf", *words], cwd=folder, **how)
 
 
 def end(process):
@@ -275,9 +281,205 @@ def listeners(program):
         end(process)
 
 
+def feed(folder, count):
+    """A file of so many lines, which are answered."""
+    wanted = b"".join(LINE % n for n in range(count))
+    with open(os.path.join(folder, "in"), "wb") as file:
+        file.write(wanted)
+    return wanted
+
+
+def sender(folder, port, options=""):
+    """The configuration from the file to a peer, with flow-control."""
+    config(
+        folder,
+        'source s { file("in" flags(no-parse) log-msg-size(1048576)); };\n'
+        f'destination p {{ network("127.0.0.1" port({port}) template("$MSG\\n") time-reopen(1) {options}); }};\n'
+        "log { source(s); destination(p); flags(flow-control); };\n",
+    )
+
+
+WINDOW, DELAY = 1 << 18, 0.1  # bytes that may be on their way, and the seconds until it is known that they are there
+
+
+def behind_a_line(peer, one):
+    """As over a line of 100 ms: no more bytes are taken than the window has, less those of the last 100 ms."""
+    way, on_it = collections.deque(), 0
+    try:
+        while not peer.over:
+            now = time.monotonic()
+            while way and way[0][0] <= now:
+                on_it -= way.popleft()[1]
+            if on_it == WINDOW:
+                time.sleep(max(0, way[0][0] - now))
+                continue
+            piece = one.recv(min(WINDOW - on_it, 65536))
+            if not piece:
+                return
+            way.append((time.monotonic() + DELAY, len(piece)))
+            on_it += len(piece)
+            peer.got += piece
+    except OSError:
+        pass
+
+
+def long_line(program):
+    """A peer behind a line of 100 ms is served at the line's rate, and not with a send for each wait of a round."""
+    peer = Peer(behind_a_line, room=16384)
+    peer.got = bytearray()
+    with tempfile.TemporaryDirectory() as folder:
+        wanted = feed(folder, 100_000)
+        sender(folder, peer.port)
+        begun = time.monotonic()
+        process = start(program, folder)
+        wait_for(lambda: len(peer.got) >= len(wanted), 60)
+        took, rate = time.monotonic() - begun, len(wanted) / WINDOW * DELAY
+        end(process)
+        text = f"{len(peer.got)} of {len(wanted)} bytes in {took:.2f} s, {rate:.2f} s at the line's rate"
+        check("a peer behind a line of 100 ms", peer.got == wanted and took <= SLOWER * rate + 1, text)
+    peer.close()
+
+
+def no_byte(program):
+    """A peer that takes no byte has failed after 60 seconds, with `--once` after 5, which is told."""
+    for name, words, seconds in [("with --once", ["--once"], 5), ("without", [], 60)]:
+        peer = Peer(read_nothing, room=4096)
+        with tempfile.TemporaryDirectory() as folder:
+            feed(folder, 100_000)
+            sender(folder, peer.port)
+            begun = time.monotonic()
+            process = start(program, folder, words=words)
+            wanted = f"destination 127.0.0.1:{peer.port}: cannot send: timed out\n"
+            there = wait_for(lambda: wanted in told(folder), seconds + 10)
+            took = time.monotonic() - begun
+            end(process)
+            check(f"a peer that takes no byte, {name}", there and took >= seconds, f"{took:.1f} s: {told(folder).strip()}")
+        peer.close()
+
+
+def close_hard(one):
+    """Closes a connection so that what is on its way is thrown away, and the other end's next send ends in an error."""
+    one.setsockopt(socket.SOL_SOCKET, socket.SO_LINGER, struct.pack("ii", 1, 0))
+    one.close()
+
+
+def failed_send(program):
+    """No frame of a send that ends in an error counts as taken: all come over the next connection."""
+
+    def serve(peer, one):
+        number = len(peer.queue)
+        if number == 1:
+            one.recv(65536)
+            close_hard(one)
+            peer.closed.set()
+        else:
+            while piece := one.recv(65536):
+                peer.got += piece
+
+    peer = Peer(serve)
+    peer.got, peer.closed = bytearray(), threading.Event()
+    with tempfile.TemporaryDirectory() as folder:
+        first = feed(folder, 1)
+        sender(folder, peer.port)
+        process = start(program, folder)
+        closed = peer.closed.wait(20)
+        time.sleep(0.2)
+        rest = b"".join(LINE % n for n in range(1, 51))
+        with open(os.path.join(folder, "in"), "ab") as file:
+            file.write(rest)
+        there = wait_for(lambda: peer.got.endswith(rest), 20)
+        end(process)
+        good = closed and there and bytes(peer.got) in (rest, first + rest)
+        check("a send to a connection that is closed", good, f"{len(peer.got)} of {len(rest)} bytes; {told(folder).strip()}")
+    peer.close()
+
+
+def torn_frame(program):
+    """A frame of which a part was sent when the peer closed comes whole over the next connection."""
+
+    def serve(peer, one):
+        number = len(peer.queue)
+        if number == 1:
+            one.recv(1000)
+            time.sleep(0.5)
+            close_hard(one)
+        else:
+            while piece := one.recv(65536):
+                peer.got += piece
+
+    peer = Peer(serve, room=4096)
+    peer.got = bytearray()
+    with tempfile.TemporaryDirectory() as folder:
+        # each is longer than what the peer takes, and together they are more than the kernel does
+        wanted = b"".join(b"%09d " % n + b"x" * 999_990 + b"\n" for n in range(12))
+        with open(os.path.join(folder, "in"), "wb") as file:
+            file.write(wanted)
+        sender(folder, peer.port)
+        process = start(program, folder)
+        wait_for(lambda: peer.got.endswith(wanted[-1_000_001:]), 30)
+        end(process)
+        lines = bytes(peer.got).split(b"\n")
+        # those that the first connection had taken whole are with it
+        good = len(lines) > 2 and wanted.endswith(bytes(peer.got)) and lines[0][9:10] == b" "
+        check("a frame that was torn", good, f"{len(lines) - 1} of 12 lines over the next connection; {told(folder).strip()}")
+    peer.close()
+
+
+def is_listening(port):
+    with open("/proc/net/tcp") as file:
+        return any(line.split()[1].endswith(f":{port:04X}") and line.split()[3] == "0A" for line in file.readlines()[1:])
+
+
+def starved_peer(program):
+    """A connection for whose peer's text there is no memory is closed, which is told, and the next one is served."""
+    compiler = shutil.which("cc") or shutil.which("clang")
+    if not compiler:
+        print("no C compiler: a connection without memory is not tried")
+        return
+    refused, wrong = 0, []
+    with tempfile.TemporaryDirectory() as tools:
+        library = os.path.join(tools, "starve.so")
+        subprocess.run([compiler, "-O2", "-shared", "-fPIC", "-o", library, os.path.join(TOP, "tests", "starve.c"), "-ldl"], check=True)
+        for number in range(1, 33):
+            with tempfile.TemporaryDirectory() as folder:
+                port, out = free_port(), os.path.join(folder, "out")
+                config(
+                    folder,
+                    f'source s {{ network(ip("127.0.0.1") port({port}) max-connections(2) flags(no-parse)); }};\n'
+                    'destination f { file("out" template("$MSG\\n")); };\nlog { source(s); destination(f); };\n',
+                )
+                from_now = os.path.join(folder, "now")
+                process = start(program, folder, environment={"LD_PRELOAD": library, "STARVE": str(number), "STARVE_FROM": from_now})
+                wait_for(lambda: is_listening(port), 10)
+                open(from_now, "w").close()
+                first = connected(port)
+                try:
+                    first.sendall(b"first\n")
+                except OSError:
+                    pass
+                wait_for(lambda: "starved" in told(folder) or os.path.exists(out) and os.path.getsize(out) >= 6, 10)
+                closed = "cannot accept: " in told(folder) or wait_for(lambda: "cannot accept: " in told(folder), 0.3)
+                if closed:
+                    refused += 1
+                    second = connected(port)
+                    second.sendall(b"second\n")
+                    served = wait_for(lambda: os.path.exists(out) and os.path.getsize(out) >= 7, 5)
+                    if not is_closed(first, 2) or not served:
+                        wrong.append(f"allocation {number}: {told(folder)}")
+                end(process)
+            if refused:
+                break
+    check("a connection for whose text there is no memory", refused > 0 and not wrong, f"allocation {number}; {wrong}")
+
+
 if __name__ == "__main__":
     program = os.path.abspath(sys.argv[1]) if len(sys.argv) > 1 else PROGRAM
     listeners(program)
+    starved_peer(program)
+    failed_send(program)
+    torn_frame(program)
+    long_line(program)
+    no_byte(program)
     whole_over_line(program)
     full_pipe(program)
     beside(program)

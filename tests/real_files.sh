@@ -170,6 +170,7 @@ expect 'a configuration is checked' 0 't: ok\n' - check t
 drivers='# destination 0 is d: file("out" template("$MSG\\n"))\n'
 told="$drivers"'# destination 1 is network("h" port(1) template("$PRI\\n"))\n'
 expect 'a file is traced' 0 'record 0 destination 0 flow yes length 4\none\n\nrecord 0 destination 1 flow no length 3\n11\n\nrecord 1 destination 1 flow no length 3\n12\n\n' - trace t s in
+told='   note: the source statements are `s`\n'
 expect 'a source without a driver' 2 't:0: unknown name\n' - trace t d in
 told="$drivers"'# destination 1 is network("h" port(1) template("$PRI\\n"))\nsource missing: cannot open: No such file or directory (os error 2)\n'
 expect 'no file to trace' 4 'cannot open inlet 0\n' - trace t s missing
@@ -270,7 +271,7 @@ twice='an earlier log statement of the same source delivers the same records her
 told=$(waits many 632 10100; for k in $(seq 5 54); do warned many $k 30 "$twice" 'log { source(s); destination(d); flags(flow-control); };'; done; printf 'there are more warnings\\n')
 expect '1,024 deliveries' 0 'many: ok\n' - check many
 repeated 1025 >many
-told='many:1028:1: too many offers\n   log { source(s); destination(d); flags(flow-control); };\n   ^\n'
+told='many:1028:1: too many offers\n   log { source(s); destination(d); flags(flow-control); };\n   ^\n   note: a record may come to 1,024 deliveries, whatever filters let through, and as many messages to a place of a path\n'
 expect '1,025 deliveries' 2 'many:1028: too many offers\n' - check many
 printf '@version: 4.2\n@include "bad"\n' >bad
 told='bad:2:1: includes nested too deep\n   @include "bad"\n   ^\n'
@@ -557,6 +558,16 @@ same() {
     if cmp -s same.wanted "$3"; then passed=$((passed + 1)); else failed=$((failed + 1)); echo "$1:"; cat "$3" errors; fi
 }
 
+# comes NAME PATTERN: whether the run comes to tell a line that is this, a basic regular expression, behind its moment, within ten seconds
+comes() {
+    for _ in $(seq 100); do
+        grep -q "^$moment $2\$" errors && break
+        sleep 0.1
+    done
+    if grep -q "^$moment $2\$" errors; then passed=$((passed + 1)); else failed=$((failed + 1)); echo "$1:"; cat errors; fi
+}
+moment='20[0-9-]*T[0-9:]*+00:00'
+
 # merged NAME FILE WANTED..: whether the file holds the lines of each WANTED, printf formats, in order, and no others. Which of two
 # sources comes first is free, since they take their turns at the same time.
 merged() {
@@ -623,6 +634,78 @@ if [ -w /dev/full ]; then
 fi
 rm -rf named pos-* id-*
 
+# The same beside a destination that goes on, with records of two files in turn. While one of the files has no room, or may not be made,
+# the other destination gets as many records as the source's window lets in; behind it none is torn, missing or out of order.
+beside() {
+    named "$1" | sed 's/^log .*/destination e { file("all" template("$MSG\\n")); };\n&/; s/destination(d);/& destination(e);/'
+}
+in_turn() {
+    awk -v one="$1" -v two="$2" 'BEGIN { for (k = 0; k < 600; k++) printf "<13>Oct 11 22:14:15 %s app: line %05d\n", k % 2 ? two : one, k }'
+}
+both() {
+    printf 'source 0 records %s bad-frames 0 position %s\\ndestination 0 taken %s dropped-full 0 dropped-disk 0 left %s\\n' "$1" "$2" "$3" "$4"
+    printf 'destination 1 taken %s dropped-full 0 dropped-disk 0 left 0\\n%sstatus %s\\n' "$1" "$5" "$6"
+}
+# each NAME FILE [HOST]: whether the file has the text of each record, of a host or of all, in their order, but for some that stand there again
+each() {
+    sed -n "s/.* $3.*app: //p" in >each.wanted
+    if awk '!seen[$0]++' "$2" | cmp -s - each.wanted; then passed=$((passed + 1)); else failed=$((failed + 1)); echo "$1:"; head "$2"; fi
+}
+rm -f all out
+if mount -t tmpfs -o size=16k none small 2>/dev/null; then
+    mounted=yes
+    head -c 9000 /dev/zero >small/filler
+    beside 'small/$HOST' >c4
+    in_turn one two >in
+    told='destination small/two: cannot write: No space left on device (os error 28)\n'
+    again 'a full disk below files that messages name' 6 "$(both 101 40 1 100 'fault sink 0\n' 6)" - run c4 --once
+    same 'what had its room' 'line 00000\n' small/one
+    [ ! -s small/two ] && [ "$(grep -c '^line .....$' all)" = 101 ] && passed=$((passed + 1)) || { failed=$((failed + 1)); echo 'a full disk below files that messages name: a torn line, or more than the window'; }
+    rm small/filler
+    again 'space again below such files' 0 "$(both 599 24000 599 0 '' 0)" - run c4 --once
+    each 'the file that had its room' small/one one
+    each 'the file that had none' small/two two
+    each 'the file on another disk' all
+    umount small && mounted=
+fi
+rm -f all pos-* id-*
+
+# A user who may not make files in one of the folders.
+printf '#!/bin/sh\nexec setpriv --reuid=65534 --regid=65534 --clear-groups "%s" "$@"\n' "$(realpath "$program")" >nobody
+chmod 755 nobody
+if [ "$(id -u)" = 0 ] && chown 65534 . && ./nobody --help >/dev/null 2>&1; then
+    users=$program program=./nobody
+    mkdir closed open
+    chown 65534 open
+    beside '$HOST/log' >c4
+    in_turn open closed >in
+    denied='destination closed/log: cannot open: Permission denied (os error 13)\n'
+    told="$denied$denied$denied"
+    again 'a folder without leave' 6 "$(both 101 41 1 100 'fault sink 0\n' 6)" - run c4 --once
+    same 'the file in another folder' 'line 00000\n' open/log
+    chown 65534 closed
+    again 'the folder with leave' 0 "$(both 599 25200 599 0 '' 0)" - run c4 --once
+    each 'the file in a folder with leave' open/log open
+    each 'the file in the folder that had none' closed/log closed
+    each 'the file of all' all
+    rm -rf closed/* pos-* id-*
+    chown 0 closed
+    beside 'closed/$HOST/log' | sed 's/"closed[^)]*)/& create-dirs(yes)/' >c5
+    denied='destination closed/open/log: cannot open: Permission denied (os error 13)\n'
+    told="$denied$denied$denied"
+    again 'a folder that may not be made' 6 "$(both 100 0 0 100 'fault sink 0\n' 6)" - run c5 --once
+    [ -z "$(ls -A closed)" ] && passed=$((passed + 1)) || { failed=$((failed + 1)); echo 'a folder that may not be made: it was'; }
+    # One path is opened at the start: nothing is read, and nothing written.
+    rm -rf all pos-* id-*
+    beside 'closed/log' >c6
+    told='destination closed/log: cannot open: Permission denied (os error 13)\n'
+    again 'a file that may not be made' 4 'cannot open destination 0\n' - run c6 --once
+    [ ! -e all ] && passed=$((passed + 1)) || { failed=$((failed + 1)); echo 'a file that may not be made: the other one was'; }
+    program=$users
+    chown 0 .
+fi
+rm -rf nobody closed open all pos-* id-*
+
 # A file for each host and day, and one for each program: folders are made with their mode, and no host leaves its folder.
 mkdir -p examples/hosts
 cp "$top/examples/hosts/hosts.conf" "$top/examples/hosts/in.log" examples/hosts
@@ -671,6 +754,18 @@ start_run run c
 same 'a file that is followed' 'one\n' out
 printf 'two\n' >>in
 same 'a file that grows' 'one\ntwo\n' out
+kill $process && wait $process 2>/dev/null
+
+# Counts are told while a run goes on, and once more before it ends.
+sed '1s/$/\noptions { stats(freq(60)); };/' c >counted
+printf 'one\ntwo\n' >in
+told='source 0 records 2 bad-frames 0 position 8\ndestination 0 taken 2 dropped-full 0 dropped-disk 0 left 0\n'
+expect 'counts before the end' 0 "$(report 2 8 2 0 '' 0)" 'one\ntwo\n' run counted --once
+sed -i 's/freq(60)/freq(1)/' counted
+start_run run counted
+printf 'three\n' >>in
+comes 'counts of a file' 'source 0 records 1 bad-frames 0 position 14'
+comes 'counts of its copy' 'destination 0 taken 1 dropped-full 0 dropped-disk 0 left 0'
 kill $process && wait $process 2>/dev/null
 
 # Peers of connections, each on a port that was free.
@@ -782,6 +877,18 @@ if command -v python3 >/dev/null; then
     until [ -e third.listens ] || ! kill -0 $peer 2>/dev/null; do sleep 0.1; done
     timeout 60 "$program" run buffered --once >said 2>errors
     [ $? = 0 ] && wait $peer && cmp -s in third && passed=$((passed + 1)) || { failed=$((failed + 1)); echo 'a disk-buffer with its peer back:'; cat said errors; }
+
+    # Counts of two connections to a listener, and of a peer that is away and comes back.
+    rm -f queue-* first
+    given=$(python3 peer.py port)
+    printf '@version: 4.2\noptions { stats-freq(1); };\nsource s { network(ip("127.0.0.1") port(%s) max-connections(2) flags(no-parse)); };\ndestination d { network("127.0.0.1" port(%s) template("$MSG\\n") time-reopen(1)); };\nlog { source(s); destination(d); };\n' "$given" "$port" >away
+    start_run run away
+    timeout 60 python3 peer.py give "$given" 2 2
+    comes 'counts of a listener' 'source 0 records 4 bad-frames 0'
+    comes 'counts of a peer that is away' "destination 0 taken 0 dropped-full 0 dropped-disk 0 left 4 oldest [1-9] fails-since $moment"
+    timeout 60 python3 peer.py take "$port" 4 first &
+    comes 'counts of a peer that is back' 'destination 0 taken 4 dropped-full 0 dropped-disk 0 left 0'
+    kill $process && wait $process 2>/dev/null
 
     # A usual distribution file, with the files of this folder.
     port=$(python3 peer.py port)

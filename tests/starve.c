@@ -1,4 +1,5 @@
-/* Preloaded, it refuses the allocation of the number that STARVE has, counted from 1, and says so on standard error. */
+/* Preloaded, it refuses the allocation of the number that STARVE has, counted from 1, and says so on standard error. Where
+   STARVE_FROM names a file, they are counted from the first one on at which it is there. */
 #define _GNU_SOURCE
 #include <dlfcn.h>
 #include <errno.h>
@@ -10,12 +11,23 @@
 static atomic_long next_one = 1;
 static atomic_long refused = -1;
 
+/* Whether they are counted by now. */
+static int counts(void) {
+    static atomic_int begun;
+    const char *from;
+    if (begun) return 1;
+    from = getenv("STARVE_FROM");
+    if (from && access(from, F_OK) != 0) return 0;
+    begun = 1;
+    return 1;
+}
+
 static int refuses(void) {
     if (refused < 0) {
         const char *number = getenv("STARVE");
         refused = number ? atol(number) : 0;
     }
-    if (refused == 0 || atomic_fetch_add(&next_one, 1) != refused) return 0;
+    if (refused == 0 || !counts() || atomic_fetch_add(&next_one, 1) != refused) return 0;
     (void)!write(2, "starved\n", 8);
     errno = ENOMEM;
     return 1;

@@ -1,5 +1,5 @@
 -- The core that is measured, and what is brought to it.
-use Rattle.std.proofs.Common.{◌≡◌, ℕ, ◌+◌, ◌<◌, ◌≤◌, ◌^◌, List, [], ◌∷◌, ◌++◌, length, Some, None, Option, refl, sym, ap, ◌∙◌, arith, suc, zero, subst, map}
+use Rattle.std.proofs.Common.{◌≡◌, ℕ, ◌+◌, ◌<◌, ◌≤◌, ◌^◌, List, [], ◌∷◌, length, Some, None, Option, refl, sym, ap, ◌∙◌, arith, suc, zero, subst, map}
 use Rattle.std.proofs.lemmas.List.{length-map}
 use Rattle.sg_machine.specs.declared.event.Admission.{Admission}
 use Rattle.sg_machine.specs.declared.setup.BufferSetup.{BufferSetup}
@@ -12,7 +12,6 @@ use Rattle.sg_sinks.specs.States.{SinkState}
 use Rattle.sg_standing.specs.States.{CoreState}
 use Rattle.sg_standing.specs.declared.source.Source.{Source}
 use Rattle.bench_parts.specs.Cores.{measured, spooled, IsMeasured}
-use Rattle.sg_msg.specs.Offers.{AllWithin}
 
 no-source-store : (b : Option BufferSetup) (i s : ℕ) → store_in (measured b).sources i ≡ Some s → ⊥
 no-source-store b zero s p = let wrong : None ≡ Some s = p in cc
@@ -60,10 +59,6 @@ spooled-capacities zero setup buffer get has =
     let within : 1048576 ≤ 2 ^ 30 = omega arith in
     subst (λ (x : BufferSetup). x.capacity ≤ 2 ^ 30) same within
 spooled-capacities (suc d) setup buffer get has = absurd (let wrong : None ≡ Some setup = get in cc)
-
-pub enter_push : (n : ℕ) (rs : List Admission) (r : Admission) → AllMayEnter n rs → r.end < 2 ^ 63 → length r.offers ≤ 1024 → AllWithin n r.offers → AllMayEnter n (rs ++ r ∷ [])
-enter_push n [] r h end few within = (record { end = end; few = few; dests = within }, tt)
-enter_push n (q ∷ rs) r h end few within = (h.0, enter_push n rs r h.1 end few within)
 
 -- a core of such a setup has one source and one destination
 

@@ -8,7 +8,10 @@ use Rattle.sg_standing.specs.States.{CoreState, setup_of}
 
 -- one source without a store, and one destination
 abbrev pub measured : Option BufferSetup → Setup
-measured buffer = record { sources = record { window = 1000; store = None } ∷ []; dests = record { fifo = 1000; buffer = buffer } ∷ [] }
+measured buffer = record {
+  sources = record { window = 1000; store = None } ∷ [];
+  dests = record { fifo = 1000; buffer = buffer } ∷ [];
+}
 
 -- the disk-buffer in store 0
 abbrev pub spooled : Option BufferSetup

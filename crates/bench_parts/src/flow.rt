@@ -46,7 +46,7 @@ fn offers(alloc: Global, message: &Message) -> Result<Vec<Offer>, AllocError>
 }
 
 // A record more.
-#[tactic(auto, using(crate::proofs::CoreLemmas::enter_push))]
+#[tactic(auto, using(sg_counter::proofs::BringingLemmas::enter_push))]
 fn add_record(records: &mut Vec<Admission>, end: u64, offers: Vec<Offer>) -> Result<(), AllocError>
     requires end { end < 2 ^ 63 }
     requires few { length offers.items ≤ 1024 }

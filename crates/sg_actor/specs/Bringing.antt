@@ -107,7 +107,8 @@ Admits step counter counter' i old new result =
     × (step counter (Admit i old.held) reply counter' × AdmitsBy old new reply result)
 
 -- What steps leave that make these calls: the records of the admitted calls are the next ones of the inlet, in order.
-pub record Brings {S : Type 0} (offers : ℕ → Record → List Offer → Type 0) (dests : ℕ) (spec : SourceSpec) (step : S → CoreCall → CoreReply → S → Type 0) (counter counter' : S)
+pub record Brings {S : Type 0} (offers : ℕ → Record → List Offer → Type 0) (dests : ℕ)
+    (spec : SourceSpec) (step : S → CoreCall → CoreReply → S → Type 0) (counter counter' : S)
     (old new : SourceState) (ups : ℕ) (made : List Exchange) : Type 0 where
   pub makes : Makes step counter made counter'
   pub own : AllBy (OfSource spec.inlet) made
@@ -143,7 +144,8 @@ HandsBy old made (Ok handed) =
 HandsBy old made (Err e) = Unit {0}
 
 -- What a step leaves that may give parts up, so many.
-pub record MayGiveUp (dests : ℕ) (spec : SourceSpec) (old new : SourceState) (ups : ℕ) : Type 0 where
+pub record MayGiveUp (dests : ℕ) (spec : SourceSpec) (old new : SourceState)
+    (ups : ℕ) : Type 0 where
   pub ready : IsReady dests spec new
   pub reads : (done : List Record) (before : ℕ) → ReadsRecords old done before
       → ReadsRecords new done (before + ups)
@@ -154,10 +156,12 @@ pub record MayGiveUp (dests : ℕ) (spec : SourceSpec) (old new : SourceState) (
 
 -- the records that were held are admitted, or they are still held
 abbrev pub MovesHeld : List Admission → List Admission → List Admission → Type 0
-MovesHeld held held' admitted = ((held' ≡ []) × (admitted ≡ held)) ⊎ ((held' ≡ held) × (admitted ≡ []))
+MovesHeld held held' admitted =
+    ((held' ≡ []) × (admitted ≡ held)) ⊎ ((held' ≡ held) × (admitted ≡ []))
 
 -- what was read is handed in
-pub record HandsIn {S E : Type 0} (dests : ℕ) (spec : SourceSpec) (step : S → CoreCall → CoreReply → S → Type 0) (counter counter' : S)
+pub record HandsIn {S E : Type 0} (dests : ℕ) (spec : SourceSpec)
+    (step : S → CoreCall → CoreReply → S → Type 0) (counter counter' : S)
     (old new : SourceState) (result : Result Handed E) : Type 0 where
   pub made : List Exchange
   pub few : length made ≤ 1
@@ -180,19 +184,22 @@ abbrev pub HadNothing : ℕ → List Exchange → Reader → Type 0
 HadNothing credit made reader = (credit ≡ 0) ⊎ (HasRefusal made ⊎ IsInletOver reader)
 
 -- what was done, as the inlet and the calls tell it
-pub record DoesAs (credit : ℕ) (old new : SourceState) (made : List Exchange) (doings : Doings) : Type 0 where
+pub record DoesAs (credit : ℕ) (old new : SourceState) (made : List Exchange)
+    (doings : Doings) : Type 0 where
   pub brought : has_pulled old new ≡ doings.pulled
   pub idled : was_idle old new ≡ doings.idle
   pub took : has_admitted made ≡ doings.admitted
   pub nothing : doings.pulled ≡ false → doings.admitted ≡ false → doings.gave_up ≡ false
       → doings.idle ≡ false → HadNothing credit made new.reader
 
-abbrev pub DoesInTurn : {E : Type 0} → ℕ → SourceState → SourceState → List Exchange → Result Doings E
+abbrev pub DoesInTurn : {E : Type 0} → ℕ → SourceState → SourceState → List Exchange
+    → Result Doings E
     → Type 0
 DoesInTurn credit old new made (Ok doings) = DoesAs credit old new made doings
 DoesInTurn credit old new made (Err e) = Unit {0}
 
-pub record ReadsOnTurn {S E : Type 0} (offers : ℕ → Record → List Offer → Type 0) (dests : ℕ) (spec : SourceSpec) (step : S → CoreCall → CoreReply → S → Type 0) (counter counter' : S)
+pub record ReadsOnTurn {S E : Type 0} (offers : ℕ → Record → List Offer → Type 0) (dests : ℕ)
+    (spec : SourceSpec) (step : S → CoreCall → CoreReply → S → Type 0) (counter counter' : S)
     (credit : ℕ) (old new : SourceState) (result : Result Doings E) : Type 0 where
   pub made : List Exchange
   pub few : length made ≤ 1

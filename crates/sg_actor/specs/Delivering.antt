@@ -18,14 +18,16 @@ use Rattle.sg_actor.specs.declared.rendering.DestSpec.{DestSpec}
 use Rattle.sg_actor.specs.declared.turned.Turned.{Turned}
 
 -- nothing was taken, and nothing is settled
-pub record SettlesNone {S : Type 0} (counter counter' : S) (taken : ℕ) (old new : Outage) (goes : Bool) : Type 0 where
+pub record SettlesNone {S : Type 0} (counter counter' : S) (taken : ℕ) (old new : Outage)
+    (goes : Bool) : Type 0 where
   pub none : taken ≡ 0
   pub counter_stays : counter' ≡ counter
   pub outage_stays : new ≡ old
   pub goes_on : goes ≡ true
 
 -- so many are settled, where the outlet told this count of frames
-pub record SettlesSome {S : Type 0} (step : S → CoreCall → CoreReply → S → Type 0) (counter counter' : S) (d place taken count : ℕ) (old new : Outage) (goes : Bool) : Type 0 where
+pub record SettlesSome {S : Type 0} (step : S → CoreCall → CoreReply → S → Type 0)
+    (counter counter' : S) (d place taken count : ℕ) (old new : Outage) (goes : Bool) : Type 0 where
   pub answer : Settled
   pub some : 0 < taken
   pub made : step counter (Settle d place taken count) (SettledReply answer) counter'
@@ -46,12 +48,15 @@ Refills step counter counter' d old new =
 
 -- there were entries, or the question came to this; it was too early for them, or not
 abbrev pub ShowsBy : {E : Type 0} → List Exchange → Bool → Outage → Result Turned E → Type 0
-ShowsBy made idle new (Ok turned) = (turned.idle ≡ idle) × (turned.did ≡ (has_shown made && not idle))
+ShowsBy made idle new (Ok turned) =
+    (turned.idle ≡ idle) × (turned.did ≡ (has_shown made && not idle))
     × (has_shown made ≡ false → (is_some new.given_up ≡ true) ⊎ IsShownEmpty made)
 ShowsBy made idle new (Err e) = Unit {0}
 
 -- what a turn does once its outlet is open
-pub record FrontTurnGives {S E : Type 0} (spec : DestSpec) (step : S → CoreCall → CoreReply → S → Type 0) (counter counter' : S) (new : Outage) (drain drain' : OutletState) (result : Result Turned E) : Type 0 where
+pub record FrontTurnGives {S E : Type 0} (spec : DestSpec)
+    (step : S → CoreCall → CoreReply → S → Type 0) (counter counter' : S) (new : Outage)
+    (drain drain' : OutletState) (result : Result Turned E) : Type 0 where
   pub made : List Exchange
   pub taken : ℕ
   pub refused : Bool

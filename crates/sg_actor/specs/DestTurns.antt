@@ -67,8 +67,10 @@ SettlesFirst d place (suc n) count well (s ∷ made) = (s.call ≡ Settle d plac
     × Refills d (well && is_done s.reply) made
 
 abbrev pub FollowsFront : (d taken count : ℕ) → Bool → CoreReply → List Exchange → Type 0
-FollowsFront d taken count well (FrontReply (Ok (Entries place []))) made = (made ≡ []) × (taken ≡ 0)
-FollowsFront d taken count well (FrontReply (Ok (Entries place (m ∷ ms)))) made = SettlesFirst d place
+FollowsFront d taken count well (FrontReply (Ok (Entries place []))) made =
+    (made ≡ []) × (taken ≡ 0)
+FollowsFront d taken count well (FrontReply (Ok (Entries place (m ∷ ms)))) made =
+    SettlesFirst d place
     taken count well made
 FollowsFront d taken count well reply made = (made ≡ []) × (taken ≡ 0)
 
@@ -97,20 +99,24 @@ IsShownEmpty [] = ⊥
 IsShownEmpty (f ∷ made) = IsEmptyFront f.reply
 
 -- The destination sent, or reopened its outlet, unless it was too early and no frame was taken; and in an empty turn no entry was left, or it is given up.
-pub record TellsSent (old new : Outage) (made : List Exchange) (taken : ℕ) (drain drain' : OutletState) (turned : Turned) : Type 0 where
+pub record TellsSent (old new : Outage) (made : List Exchange) (taken : ℕ)
+    (drain drain' : OutletState) (turned : Turned) : Type 0 where
   pub did : turned.did ≡ ((has_shown made || old.reopens) && not turned.idle)
   pub idle : turned.idle ≡ is_idle (nat_lt drain.laters drain'.laters) taken
   pub empty : turned.did ≡ false → turned.idle ≡ false
       → (is_some new.given_up ≡ true) ⊎ IsShownEmpty made
 
-abbrev pub TellsDest : {E : Type 0} → Outage → Outage → List Exchange → ℕ → OutletState → OutletState
+abbrev pub TellsDest : {E : Type 0} → Outage → Outage → List Exchange → ℕ → OutletState
+    → OutletState
     → Result Turned E → Type 0
-TellsDest old new made taken drain drain' (Ok turned) = TellsSent old new made taken drain drain' turned
+TellsDest old new made taken drain drain' (Ok turned) =
+    TellsSent old new made taken drain drain' turned
 TellsDest old new made taken drain drain' (Err e) = Unit {0}
 
 -- A turn of a destination that isn't given up. So many frames of the first entries were taken, and just so many are settled, with the
 -- outlet's count at the end of the turn; the last send or reopening was refused with a fault, or not.
-pub record SendsWith {S E : Type 0} (spec : DestSpec) (step : S → CoreCall → CoreReply → S → Type 0) (counter counter' : S) (old new : Outage) (drain drain' : OutletState)
+pub record SendsWith {S E : Type 0} (spec : DestSpec) (step : S → CoreCall → CoreReply → S → Type 0)
+    (counter counter' : S) (old new : Outage) (drain drain' : OutletState)
     (result : Result Turned E) (made : List Exchange) (taken : ℕ) (refused : Bool) : Type 0 where
   pub makes : Makes step counter made counter'
   pub own : AllBy (OfDest spec.dest) made
@@ -130,7 +136,8 @@ pub record SendsWith {S E : Type 0} (spec : DestSpec) (step : S → CoreCall →
   pub tells : TellsDest old new made taken drain drain' result
 
 -- a turn of one that is given up
-pub record StaysGivenUp {S E : Type 0} (counter counter' : S) (old new : Outage) (drain drain' : OutletState) (result : Result Turned E) : Type 0 where
+pub record StaysGivenUp {S E : Type 0} (counter counter' : S) (old new : Outage)
+    (drain drain' : OutletState) (result : Result Turned E) : Type 0 where
   pub counter_stays : counter' ≡ counter
   pub outage_stays : new ≡ old
   pub drain_stays : drain' ≡ drain
@@ -142,12 +149,14 @@ abbrev pub SendsByCause : {S E : Type 0} → Option GivenUp → DestSpec
 SendsByCause None spec step counter counter' old new drain drain' result =
     (made : List Exchange) × ((taken : ℕ) × ((refused : Bool)
     × SendsWith spec step counter counter' old new drain drain' result made taken refused))
-SendsByCause (Some cause) spec step counter counter' old new drain drain' result = StaysGivenUp counter counter'
+SendsByCause (Some cause) spec step counter counter' old new drain drain' result =
+    StaysGivenUp counter counter'
     old new drain drain' result
 
 abbrev pub SendsTurn : {S E : Type 0} → DestSpec → (S → CoreCall → CoreReply → S → Type 0) → S → S
     → Outage → Outage → OutletState → OutletState → Result Turned E → Type 0
-SendsTurn spec step counter counter' old new drain drain' result = SendsByCause old.given_up spec step
+SendsTurn spec step counter counter' old new drain drain' result =
+    SendsByCause old.given_up spec step
     counter counter' old new drain drain' result
 
 -- What the calls leave of what is known of failures.
@@ -165,7 +174,9 @@ idle_in (Ok idle) = idle
 idle_in (Err e) = false
 
 -- What a send and the calls after it leave. It was too early for the send and no frame was taken, or not.
-pub record HasDelivered {S : Type 0} (spec : DestSpec) (step : S → CoreCall → CoreReply → S → Type 0) (counter counter' : S) (place : ℕ) (messages : List Content) (new : Outage) (drain drain' : OutletState)
+pub record HasDelivered {S : Type 0} (spec : DestSpec)
+    (step : S → CoreCall → CoreReply → S → Type 0) (counter counter' : S) (place : ℕ)
+    (messages : List Content) (new : Outage) (drain drain' : OutletState)
     (well idle : Bool) : Type 0 where
   pub made : List Exchange
   pub taken : ℕ
@@ -187,7 +198,8 @@ pub record HasDelivered {S : Type 0} (spec : DestSpec) (step : S → CoreCall �
   pub cause : HasGivenUpCause spec.gives_up refused drain' made new.given_up
 
 -- a destination whose outlet never failed
-pub record IsNewDest (dest : ℕ) (gives_up : Bool) (shape : Shape) (env : Env) (spec : DestSpec) (outage : Outage) (drain : OutletState) : Type 0 where
+pub record IsNewDest (dest : ℕ) (gives_up : Bool) (shape : Shape) (env : Env) (spec : DestSpec)
+    (outage : Outage) (drain : OutletState) : Type 0 where
   pub spec_is : spec ≡ record { dest = dest; shape = shape; env = env; gives_up = gives_up }
   pub works : outage.reopens ≡ false
   pub kept : outage.given_up ≡ None

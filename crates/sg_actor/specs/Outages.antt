@@ -46,14 +46,16 @@ pub record TakesFrames (taken : ℕ) (frames : List (List ℕ)) (old new : Outle
 
 -- an outlet that didn't fail last isn't reopened; another one is, or it is too early, or it fails again
 abbrev pub BeginsTurn : Bool → Outage → Outage → OutletState → OutletState → BegunTurn → Type 0
-BeginsTurn gives_up old new drain drain' Open = (old.reopens ≡ false) × (new ≡ old) × (drain' ≡ drain)
+BeginsTurn gives_up old new drain drain' Open =
+    (old.reopens ≡ false) × (new ≡ old) × (drain' ≡ drain)
 BeginsTurn gives_up old new drain drain' Reopened = (old.reopens ≡ true)
     × (new ≡ record old { reopens = false }) × TakesFrames 0 [] drain drain'
     × (drain'.laters ≡ drain.laters) × (drain'.failing ≡ drain.failing)
 BeginsTurn gives_up old new drain drain' Later = (old.reopens ≡ true) × (new ≡ old)
     × (drain' ≡ record drain { laters = drain.laters + 1 })
 BeginsTurn gives_up old new drain drain' Failed = (old.reopens ≡ true) × (new ≡ failed gives_up old)
-    × TakesFrames 0 [] drain drain' × (drain'.laters ≡ drain.laters) × Rose drain.faults drain'.faults
+    × TakesFrames 0 [] drain drain' × (drain'.laters ≡ drain.laters)
+    × Rose drain.faults drain'.faults
     × HasFailures new drain'
 
 -- it was too early for one call, or for none
@@ -66,7 +68,8 @@ abbrev pub is_idle : Bool → ℕ → Bool
 is_idle later taken = later && (taken == 0)
 
 -- what became of a send: a failure is counted, and neither is it one that it was too early nor lack of memory
-pub record SendComesTo (gives_up : Bool) (frames : List (List ℕ)) (old new : Outage) (drain drain' : OutletState) (sent : Sent) : Type 0 where
+pub record SendComesTo (gives_up : Bool) (frames : List (List ℕ)) (old new : Outage)
+    (drain drain' : OutletState) (sent : Sent) : Type 0 where
   pub takes : TakesFrames sent.taken frames drain drain'
   pub within : sent.taken ≤ length frames
   pub waits : Waits sent.later drain drain'
@@ -75,4 +78,5 @@ pub record SendComesTo (gives_up : Bool) (frames : List (List ℕ)) (old new : O
   pub rose : refused ≡ true → Rose drain.faults drain'.faults
   pub outage : new
       ≡ (if refused then failed gives_up (with_taken sent.taken old) else with_taken sent.taken old)
-  pub whole : sent.starved ≡ false → refused ≡ false → sent.later ≡ false → sent.taken ≡ length frames
+  pub whole : sent.starved ≡ false → refused ≡ false → sent.later ≡ false
+      → sent.taken ≡ length frames

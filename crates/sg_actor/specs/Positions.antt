@@ -42,7 +42,8 @@ after_stores end (s ∷ ss) position = after_stores end ss
     (record position { asked = end; broken = position.broken || is_failure s })
 
 -- the position was stored where that was due, and else nothing was asked
-pub record StoresPosition {S : Type 0} (spec : SourceSpec) (step : S → CoreCall → CoreReply → S → Type 0) (counter counter' : S) (rests : Bool) (end : ℕ)
+pub record StoresPosition {S : Type 0} (spec : SourceSpec)
+    (step : S → CoreCall → CoreReply → S → Type 0) (counter counter' : S) (rests : Bool) (end : ℕ)
     (old new : Position) (news : Bool) : Type 0 where
   pub made : List Exchange
   pub few : length made ≤ 1

@@ -46,7 +46,9 @@ bad_parts kind limit (part ∷ parts) = bad_forms (open_of kind limit part.given
 
 -- Of the last part these bytes were given, and of them these items taken; so many parts were given up for a bad count, the last one
 -- among them or not.
-pub record IsPartRead (kind : FrameKind) (limit from : ℕ) (peer : List ℕ) (parts : List Part) (last_too : Bool) (done : List Record) (ups : ℕ) (bytes : List Stamped) (items : List Item) : Type 0 where
+pub record IsPartRead (kind : FrameKind) (limit from : ℕ) (peer : List ℕ) (parts : List Part)
+    (last_too : Bool) (done : List Record) (ups : ℕ) (bytes : List Stamped)
+    (items : List Item) : Type 0 where
   pub given : bytes ≡ last_given parts
   pub has_peer : HasPeer peer parts
   pub taken : done ≡ records kind limit from (earlier parts) ++ map (record_of from peer) items
@@ -56,7 +58,8 @@ pub record IsPartRead (kind : FrameKind) (limit from : ℕ) (peer : List ℕ) (p
 abbrev pub AreItemsRead : FrameKind → ℕ → ℕ → List ℕ → Option (List Part) → Bool → List Record → ℕ
     → List Stamped → List Item → Type 0
 AreItemsRead kind limit from peer None last_too done ups bytes items = Unit {0}
-AreItemsRead kind limit from peer (Some parts) last_too done ups bytes items = IsPartRead kind limit from
+AreItemsRead kind limit from peer (Some parts) last_too done ups bytes items =
+    IsPartRead kind limit from
     peer parts last_too done ups bytes items
 
 -- the item that the framer gave last, where its record isn't held yet

@@ -71,7 +71,8 @@ pub record IsEmptyTurn (spec : SourceSpec) (new : ActorState) (made : List Excha
   pub over : HasRefusal made ⊎ IsInletOver new.source.reader
   pub stored : IsPositionStored spec new.position made
 
-pub record TellsTurn (spec : SourceSpec) (old new : ActorState) (made : List Exchange) (ups credit : ℕ) (turned : Turned) : Type 0 where
+pub record TellsTurn (spec : SourceSpec) (old new : ActorState) (made : List Exchange)
+    (ups credit : ℕ) (turned : Turned) : Type 0 where
   pub did : turned.did ≡ (not (rests old new made ups credit) || has_news (stores_in made))
   pub idle : turned.idle ≡ was_idle old.source new.source
   pub asks : length (stores_in made) ≡ one_if
@@ -85,8 +86,10 @@ TellsSource spec old new made ups credit (Err e) = Unit {0}
 
 -- A turn makes these calls, and gives up so many parts. Also where memory ran out the records that it admitted are the next ones that the
 -- inlet gave, in order, and those behind them are still to come.
-pub record TurnsWith {S E : Type 0} (offers : ℕ → Record → List Offer → Type 0) (dests : ℕ) (spec : SourceSpec) (step : S → CoreCall → CoreReply → S → Type 0) (counter counter' : S)
-    (old new : ActorState) (result : Result Turned E) (made : List Exchange) (ups credit : ℕ) : Type 0 where
+pub record TurnsWith {S E : Type 0} (offers : ℕ → Record → List Offer → Type 0) (dests : ℕ)
+    (spec : SourceSpec) (step : S → CoreCall → CoreReply → S → Type 0) (counter counter' : S)
+    (old new : ActorState) (result : Result Turned E) (made : List Exchange)
+    (ups credit : ℕ) : Type 0 where
   pub makes : Makes step counter made counter'
   pub own : AllBy (OfSource spec.inlet) made
   pub few : length made ≤ 4
@@ -125,7 +128,8 @@ TakesTurn offers dests spec step counter counter' old new result =
     × TurnsWith offers dests spec step counter counter' old new result made ups credit))
 
 -- nothing was read yet
-pub record IsNewSource (offers : ℕ → Record → List Offer → Type 0) (dests : ℕ) (spec : SourceSpec) (s : ActorState) : Type 0 where
+pub record IsNewSource (offers : ℕ → Record → List Offer → Type 0) (dests : ℕ) (spec : SourceSpec)
+    (s : ActorState) : Type 0 where
   pub ready : IsReady dests spec s.source
   pub reads : HasRead offers spec s.source [] 0
   pub held : s.source.reader.held ≡ []

@@ -24,9 +24,11 @@ pub record SourceState : Type 0 where
 abbrev pub source : InletState → Reader → List ℕ → SourceState
 source feed reader buffer = record { feed = feed; reader = reader; buffer = buffer }
 
-pub record ReadsWith (s : SourceState) (done : List Record) (ups : ℕ) (bytes : List Stamped) (items : List Item) : Type 0 where
+pub record ReadsWith (s : SourceState) (done : List Record) (ups : ℕ) (bytes : List Stamped)
+    (items : List Item) : Type 0 where
   pub framed : HasFramed bytes (items ++ items_ahead s.reader.ahead) s.reader.framer
-  pub read : AreItemsRead s.reader.framer.kind s.reader.framer.limit s.feed.from s.feed.peer s.feed.told
+  pub read : AreItemsRead s.reader.framer.kind s.reader.framer.limit s.feed.from s.feed.peer
+      s.feed.told
       s.reader.given_up done ups (bytes ++ bytes_pulled s.reader.pulled s.buffer) items
   -- each record took a byte with it at least
   pub fewer : length done + length (items_ahead s.reader.ahead) + length s.reader.framer.held
@@ -34,7 +36,8 @@ pub record ReadsWith (s : SourceState) (done : List Record) (ups : ℕ) (bytes :
 
 -- these records were taken of what the inlet gave, the reader has what is behind them, and so many parts were given up
 abbrev pub ReadsRecords : SourceState → List Record → ℕ → Type 0
-ReadsRecords s done ups = (bytes : List Stamped) × ((items : List Item) × ReadsWith s done ups bytes items)
+ReadsRecords s done ups = (bytes : List Stamped)
+    × ((items : List Item) × ReadsWith s done ups bytes items)
 
 -- the end of a record, which counts where the inlet has a position store
 abbrev pub end_of : Bool → Record → ℕ
@@ -42,7 +45,8 @@ end_of true r = r.item.end
 end_of false r = 0
 
 -- a record as it is brought to the core
-pub record IsOf (offers : ℕ → Record → List Offer → Type 0) (spec : SourceSpec) (r : Record) (a : Admission) : Type 0 where
+pub record IsOf (offers : ℕ → Record → List Offer → Type 0) (spec : SourceSpec) (r : Record)
+    (a : Admission) : Type 0 where
   pub ends : a.end ≡ end_of spec.stored r
   pub offered : offers spec.inlet (record_at r.peer r.item.text r.item.at) a.offers
 

@@ -83,7 +83,8 @@ pub record IsSpent (reader : Reader) : Type 0 where
 abbrev pub has_pulled : SourceState → SourceState → Bool
 has_pulled old new =
     nat_lt old.feed.bytes new.feed.bytes || nat_lt old.feed.parts new.feed.parts
-    || nat_lt (one_if old.reader.ended) (one_if new.reader.ended) || nat_lt (one_if old.reader.failed) (one_if new.reader.failed)
+    || nat_lt (one_if old.reader.ended) (one_if new.reader.ended)
+    || nat_lt (one_if old.reader.failed) (one_if new.reader.failed)
 
 abbrev pub was_idle : SourceState → SourceState → Bool
 was_idle old new = nat_lt old.feed.idles new.feed.idles
@@ -115,7 +116,8 @@ pub record PullsAtMost (old new : SourceState) : Type 0 where
   pub failing : PullFails old.reader.failed new.reader.failed old.feed.faults new.feed.faults
 
 -- the inlet was pulled once
-pub record PullsOnce (dests : ℕ) (spec : SourceSpec) (old new : SourceState) (idle : Bool) : Type 0 where
+pub record PullsOnce (dests : ℕ) (spec : SourceSpec) (old new : SourceState)
+    (idle : Bool) : Type 0 where
   pub rests : SourceRestsStill dests spec old new
   pub pulls : new.feed.pulls ≤ old.feed.pulls + 1
   pub brought : has_pulled old new ≡ not idle
@@ -128,7 +130,8 @@ PullsOnto old new idle = (dests : ℕ) (spec : SourceSpec) → IsReady dests spe
 
 -- What a step leaves that brings nothing to the core: whatever was admitted before, it is still followed by what is held and by what the
 -- reader has.
-pub record KeepsRecords (offers : ℕ → Record → List Offer → Type 0) (dests : ℕ) (spec : SourceSpec) (old new : SourceState) : Type 0 where
+pub record KeepsRecords (offers : ℕ → Record → List Offer → Type 0) (dests : ℕ) (spec : SourceSpec)
+    (old new : SourceState) : Type 0 where
   pub ready : IsReady dests spec new
   pub reads : (done : List Record) (ups : ℕ) → HasRead offers spec old done ups
       → HasRead offers spec new done ups

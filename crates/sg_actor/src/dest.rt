@@ -125,6 +125,13 @@ impl<O: Outlet> DestActor<O> {
         }
     }
 
+    /// Whether the outlet failed last, and is to be reopened.
+    pub fn fails(&self) -> bool
+        ensures { result ≡ self.now.outage.reopens }
+    {
+        self.outage.reopens
+    }
+
     /// Why the destination is given up, where it is.
     pub fn given_up(&self) -> Option<GivenUp>
         ensures { result ≡ self.now.outage.given_up }

@@ -154,7 +154,8 @@ pub(crate) fn read_on<T: Wait, C: Counter, R: Router, I: Inlet>(
     requires fetch { (0 < spec.now.fetch) × (spec.now.fetch ≤ 1000) }
     requires ready { IsReady (R.dests router.old) spec.now
         (source (I.state inlet.old) reader.old buffer.old) }
-    ensures reads { ReadsOnTurn (R.offers router.old) (R.dests router.old) spec.now C.step counter.old
+    ensures reads { ReadsOnTurn (R.offers router.old) (R.dests router.old) spec.now C.step
+        counter.old
         counter.new credit (source (I.state inlet.old) reader.old buffer.old)
         (source (I.state inlet.new) reader.new buffer.new) result }
     ensures ended { reader.old.ended ≡ true → reader.new.ended ≡ true }

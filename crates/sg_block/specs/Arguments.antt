@@ -13,7 +13,8 @@ has_name name (argument ∷ others) = bytes_eq name argument.name || has_name na
 -- of the arguments of one name the last
 abbrev pub last_named : List Argument → List Argument
 last_named [] = []
-last_named (argument ∷ others) = if has_name argument.name others then last_named others else argument ∷ last_named others
+last_named (argument ∷ others) =
+    if has_name argument.name others then last_named others else argument ∷ last_named others
 
 -- the parameter must be given, and isn't
 abbrev pub lacks : Argument → List Argument → Bool
@@ -33,7 +34,8 @@ is_unknown parameters (argument ∷ others) = not (has_name argument.name parame
 -- the defaults of the parameters that aren't given, in the order declared
 abbrev pub defaults : List Argument → List Argument → List Argument
 defaults [] given = []
-defaults (parameter ∷ others) given = if has_name parameter.name given then defaults others given else parameter ∷ defaults others given
+defaults (parameter ∷ others) given = if has_name parameter.name given then defaults others given
+    else parameter ∷ defaults others given
 
 -- what a use binds: the last of each name that is given, in the order written, then the defaults
 abbrev pub bindings : List Argument → List Argument → List Argument

@@ -45,12 +45,14 @@ inside open_ones (token ∷ tokens) = parted_behind token tokens
 
 -- what stands in the brackets that open at a place, between two bytes
 abbrev pub bracketed : ℕ → ℕ → List Token → ℕ → Option Parted
-bracketed opening closing tokens place = if passes_at tokens place (is_symbol opening) then inside (closing ∷ []) (drop (place + 1) tokens) else None
+bracketed opening closing tokens place = if passes_at tokens place (is_symbol opening)
+    then inside (closing ∷ []) (drop (place + 1) tokens) else None
 
 -- the tokens from a place on up to the end, where the byte's bracket stands there
 abbrev pub closed_at : ℕ → List Token → ℕ → ℕ → Option Parted
 closed_at closing tokens place end =
-    if passes_at tokens end (is_symbol closing) then Some (take (end - place) (drop place tokens), drop (end + 1) tokens)
+    if passes_at tokens end (is_symbol closing)
+    then Some (take (end - place) (drop place tokens), drop (end + 1) tokens)
     else None
 
 -- what closes a bracket that was opened before a place is the one at the end

@@ -13,7 +13,8 @@ use Rattle.sg_block.specs.Arguments.{last_named}
 -- the tokens behind any commas; none where commas end the tokens
 abbrev pub separated : List Token → Option (List Token)
 separated tokens =
-    if nat_lt 0 (prefix_len (is_symbol 44) tokens) && (prefix_len (is_symbol 44) tokens == length tokens) then None
+    if nat_lt 0 (prefix_len (is_symbol 44) tokens)
+    && (prefix_len (is_symbol 44) tokens == length tokens) then None
     else Some (drop (prefix_len (is_symbol 44) tokens) tokens)
 
 -- an argument, and what stands behind it and its commas
@@ -27,7 +28,8 @@ argument_of name (Some parted) =
 
 -- `name(tokens)` at the front
 abbrev pub next_argument : List Token → Option Next
-next_argument tokens = if passes_at tokens 0 is_word then argument_of (text_at tokens 0) (bracketed 40 41 tokens 1) else None
+next_argument tokens = if passes_at tokens 0 is_word
+    then argument_of (text_at tokens 0) (bracketed 40 41 tokens 1) else None
 
 abbrev pub and_others : Option Next → (List Token → Option (List Argument)) → Option (List Argument)
 and_others None later = None
@@ -61,8 +63,13 @@ with_body name written given None = None
 with_body name written None (Some body) = None
 with_body name written (Some given) (Some body) =
     if passes_at body.1 0 (is_symbol 59)
-    then Some (record
-    { name = name; parameters = last_named given; written = written; body = body.0; behind = drop 1 body.1 })
+    then Some (record {
+      name = name;
+      parameters = last_named given;
+      written = written;
+      body = body.0;
+      behind = drop 1 body.1;
+    })
     else None
 
 abbrev pub defined : List ℕ → Option Parted → Option Definition
@@ -71,7 +78,8 @@ defined name (Some given) = with_body name given.0 (arguments given.0) (brackete
 
 -- `block WORD NAME ( args ) { body } ;` at the front
 abbrev pub definition : List Token → Option Definition
-definition tokens = if begins_definition tokens then defined (text_at tokens 2) (bracketed 40 41 tokens 3) else None
+definition tokens = if begins_definition tokens
+    then defined (text_at tokens 2) (bracketed 40 41 tokens 3) else None
 
 -- the arguments of a use, and the tokens behind it
 abbrev pub Use : Type 0

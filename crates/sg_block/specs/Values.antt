@@ -34,7 +34,8 @@ joined (token ∷ tokens) = token.text ++ spaced tokens
 
 -- the bytes of a name at the front that a backtick closes, 0 where none stands there
 abbrev pub tick_length : List ℕ → ℕ
-tick_length bytes = if begins_with 96 (drop (prefix_len is_name_byte bytes) bytes) then prefix_len is_name_byte bytes else 0
+tick_length bytes = if begins_with 96 (drop (prefix_len is_name_byte bytes) bytes)
+    then prefix_len is_name_byte bytes else 0
 
 -- the bytes of a variable's name, where the first byte is a backtick that begins one: else 0
 abbrev pub variable_length : List ℕ → ℕ
@@ -51,7 +52,8 @@ abbrev pub replaced : Values → Values → ℕ → List ℕ → Option (List �
 replaced scope variables skip [] = Some []
 replaced scope variables (suc skip) (b ∷ bytes) = replaced scope variables skip bytes
 replaced scope variables zero (b ∷ bytes) =
-    if variable_length (b ∷ bytes) == 0 then option_map (λ text. b ∷ text) (replaced scope variables zero bytes)
+    if variable_length (b ∷ bytes) == 0
+    then option_map (λ text. b ∷ text) (replaced scope variables zero bytes)
     else text_behind (reached scope variables (take (variable_length (b ∷ bytes)) bytes))
     (replaced scope variables (variable_length (b ∷ bytes) + 1) bytes)
 

@@ -10,11 +10,11 @@ use Rattle.std.specs.Option.{unwrap_or}
 use Rattle.atomic_table.specs.Table.{State, step as step_of, Act, keeps, takes, gives, stepped, carried_after, Valid, Allows, Splits, Joins, opening, Final, Seen}
 use Rattle.atomic_table.proofs.Lists.{at_set, set_again, at_snoc}
 use Rattle.std.specs.declared.snapshot.Snapshot.{Snapshot}
-use Rattle.sg_booth.specs.declared.office.Exchange.{Exchange}
+use Rattle.sg_booth.specs.declared.office.OfficeExchange.{OfficeExchange}
 use Rattle.sg_booth.specs.declared.table.Notes.{Notes}
 use Rattle.sg_booth.specs.declared.table.ServedOffice.{ServedOffice}
 use Rattle.sg_booth.specs.Lists.{total, times, joined_up, CountsOnce, CountsSome, StartsWith}
-use Rattle.sg_booth.specs.Rule.{Makes, places_of, first_notes, spent_notes, MadeIs, FitsNotes, IsHistoryGiven, IsHome, IsTableKept, drawn, drew, passed_notes, exchange_of, passed, returned, learned, TakesStep, looked, cut_left, cut_right, callless_notes, receipt_notes, both_notes, LiesAsGiven}
+use Rattle.sg_booth.specs.Rule.{MakesOfficeCalls, places_of, first_notes, spent_notes, MadeIs, FitsNotes, IsHistoryGiven, IsHome, IsTableKept, drawn, drew, passed_notes, exchange_of, passed, returned, learned, TakesStep, looked, cut_left, cut_right, callless_notes, receipt_notes, both_notes, LiesAsGiven}
 use Rattle.sg_booth.proofs.Sums.{total_set, total_same, total_append, total_at, total_two, total_find, total_else, times-append, times-one, times-none, joined_up-append, counts_same, counts_more, counts_less, counts_some, starts_more}
 
 -- what holds of one view and of the others holds of all after a change of one
@@ -52,7 +52,7 @@ module _ {V C R : Type 0} (step : V → C → R → V → Type 0) (may : V → C
   abbrev counts : List N → ℕ
   counts vs = total (λ (v : N). length (places_of v)) vs
 
-  home_same : (log : List (Exchange C R)) (n m : ℕ) (homes : List (maybe.Option S)) → m ≡ n → IsHome step may room made log n homes → IsHome step may room made log m homes
+  home_same : (log : List (OfficeExchange C R)) (n m : ℕ) (homes : List (maybe.Option S)) → m ≡ n → IsHome step may room made log n homes → IsHome step may room made log m homes
   home_same log n m homes e h = subst (λ k. IsHome step may room made log k homes) (sym e) h
 
   word_0 : (s : St) (k : BoothRule s) → get_or s.words 0 0 ≡ k.next
@@ -165,7 +165,7 @@ module _ {V C R : Type 0} (step : V → C → R → V → Type 0) (may : V → C
       let homes : s.homes ≡ some (Some held) ∷ [] = home.1.1 in
       let given : IsHistoryGiven step may room made k.log held.office = home.1.2 in
       let fit = k.fits id v at in
-      let more : List (Exchange C R) = fit.seen.0 in
+      let more : List (OfficeExchange C R) = fit.seen.0 in
       let whole : k.log ≡ v.seen ++ more = fit.seen.1 in
       let w : N = record v { seen = v.seen ++ more; sure = 1; out = 1 } in
       let is : w ≡ record v { seen = k.log; sure = 1; out = 1 } = ap (λ l. record v { seen = l; sure = 1; out = 1 }) (sym whole) in
@@ -186,7 +186,7 @@ module _ {V C R : Type 0} (step : V → C → R → V → Type 0) (may : V → C
           more,
           refl,
           refl,
-          (λ made' e. let same : made' ≡ made = subst (MadeIs made) e fit.made_is in subst (λ (z : V × List (Exchange C R)). IsHistoryGiven step may room z.0 z.1 held.office) (λ i. (sym same i, whole i)) given),
+          (λ made' e. let same : made' ≡ made = subst (MadeIs made) e fit.made_is in subst (λ (z : V × List (OfficeExchange C R)). IsHistoryGiven step may room z.0 z.1 held.office) (λ i. (sym same i, whole i)) given),
           omega arith,
         ),
       )
@@ -208,14 +208,14 @@ module _ {V C R : Type 0} (step : V → C → R → V → Type 0) (may : V → C
       ))
 
   -- the seat that is served gives the slot back, with the office that its history and one call more give
-  passes_slot : (s : St) (k : BoothRule s) (id : ℕ) (v w : N) (held : ServedOffice V C R) (e : Exchange C R) (n : ℕ) → get_elem? s.views id ≡ some v → 0 < v.sure → v.out ≡ 1 → w ≡ passed_notes v e
+  passes_slot : (s : St) (k : BoothRule s) (id : ℕ) (v w : N) (held : ServedOffice V C R) (e : OfficeExchange C R) (n : ℕ) → get_elem? s.views id ≡ some v → 0 < v.sure → v.out ≡ 1 → w ≡ passed_notes v e
       → IsHistoryGiven step may room made (v.seen ++ e ∷ []) held.office → n ≡ length k.log → BoothRule record { words = set s.words 1 ((n + 1) % 2 ^ 64); homes = set s.homes 0 (some (Some held)); views = set s.views id w }
   passes_slot s k id v w held e n at sure out is given found =
       let vs : List N = set s.views id w in
       let fit = k.fits id v at in
       let seen : v.seen ≡ k.log = (fit.sure sure).0 in
       let ticket : v.ticket ≡ length k.log ∷ [] = (fit.sure sure).1 in
-      let log : List (Exchange C R) = k.log ++ e ∷ [] in
+      let log : List (OfficeExchange C R) = k.log ++ e ∷ [] in
       let longer : length log ≡ length k.log + 1 = length-append k.log (e ∷ []) in
       let mine : times (length k.log) v.ticket ≡ 1 = ap (times (length k.log)) ticket ∙ times-one (length k.log) (length k.log) refl in
       let at_least = total_at (λ (v : N). times (length k.log) v.ticket) s.views id v at in
@@ -283,7 +283,7 @@ module _ {V C R : Type 0} (step : V → C → R → V → Type 0) (may : V → C
   passes_at : (slots id : ℕ) (v : N) (held : ServedOffice V C R) (x : Snapshot C × Snapshot R) → 0 < v.sure → v.out ≡ 1 → held.said ≡ Some x → IsHistoryGiven step may room made (v.seen ++ exchange_of x ∷ []) held.office
       → Allows BoothRule slots id (v, (0, Some held) ∷ []) 1 (λ n. (n + 1) % 2 ^ 64) (passed (step_of slots 1 1 0 none) (v, (0, Some held) ∷ []))
   passes_at slots id v held x sure out said given s k deep at bound =
-      let e : Exchange C R = exchange_of x in
+      let e : OfficeExchange C R = exchange_of x in
       let w : N = passed_notes v e in (
         w,
         gives,
@@ -344,7 +344,7 @@ module _ {V C R : Type 0} (step : V → C → R → V → Type 0) (may : V → C
   pub learns : (slots id : ℕ) (v : N) (c : List (ℕ × S)) → v.sure ≡ 0 → v.out ≡ 0 → Allows BoothRule slots id (v, c) 0 (λ n. n) (learned (step_of slots 0 0 0 none) (v, c))
   learns slots id v c unsure none_out s k deep at bound =
       let fit = k.fits id v at in
-      let more : List (Exchange C R) = fit.seen.0 in
+      let more : List (OfficeExchange C R) = fit.seen.0 in
       let whole : k.log ≡ v.seen ++ more = fit.seen.1 in
       let w : N = record v { seen = v.seen ++ more; told = [] } in (
         w,
@@ -519,6 +519,6 @@ lies step may room made turns s held k is = (
   k.log,
   ap (λ ws. get_or ws 1 0) k.words,
   ⊎_elim
-      (λ h. subst (λ o. Makes step made k.log o) (let e : s.homes ≡ some (Some h.1.0) ∷ [] = h.1.1 in ap (office_at held.office) (sym e ∙ is)) h.1.2.makes)
+      (λ h. subst (λ o. MakesOfficeCalls step made k.log o) (let e : s.homes ≡ some (Some h.1.0) ∷ [] = h.1.1 in ap (office_at held.office) (sym e ∙ is)) h.1.2.makes)
       (λ h. let e : s.homes ≡ none ∷ [] = h.1 in absurd (some-ne-none (Some held) (ap first_of (sym is ∙ e)))) k.home,
 )

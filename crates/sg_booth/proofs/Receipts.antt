@@ -1,6 +1,6 @@
 -- A receipt has the calls of its desk.
 use Rattle.std.proofs.Common.{◌≡◌, ℕ, ◌+◌, List, [], ◌∷◌, ◌++◌, ap, ◌∙◌, arith, append_assoc}
-use Rattle.sg_booth.specs.declared.office.Exchange.{Exchange}
+use Rattle.sg_booth.specs.declared.office.OfficeExchange.{OfficeExchange}
 use Rattle.sg_booth.specs.Lists.{times, joined_up, StartsWith, entries_at}
 use Rattle.sg_booth.specs.Desks.{BoothState, DeskState, places, ArePlacesOrdered, HasTurned, receipt_of, HasJoined, HasClosed, HasTakenSlot, HasCalls, ReceiptsStand}
 use Rattle.sg_booth.proofs.Sums.{times-append, joined_up-append}
@@ -47,7 +47,7 @@ module _ {V C R : Type 0} where
   module _ (step : V → C → R → V → Type 0) where
     turns-taken : (desk old new : DeskState V C R) (made : V) (call : C) (reply : R) → HasTakenSlot old desk → HasTurned step made old call reply new → HasTakenSlot new desk
     turns-taken desk old new made call reply t h =
-        let e : Exchange C R = record { call = call; reply = reply } in
+        let e : OfficeExchange C R = record { call = call; reply = reply } in
         let seen : new.seen ≡ old.seen ++ (h.between ++ e ∷ []) = ap (λ (d : DeskState V C R). d.seen) h.desk ∙ append_assoc old.seen h.between (e ∷ []) in
         record {
           seen = starts-then desk.seen old.seen new.seen (h.between ++ e ∷ [], seen) t.seen;
@@ -59,7 +59,7 @@ module _ {V C R : Type 0} where
         let s : StartsWith closed.history desk.seen = starts-then desk.seen closing.seen closed.history closed.seen t.seen in
         record {
           seen = s;
-          calls = ap (λ (h : List (Exchange C R)). entries_at h (places desk)) s.1 ∙ entries-placed desk.seen s.0 desk.own desk.joined ordered.0 ordered.1;
+          calls = ap (λ (h : List (OfficeExchange C R)). entries_at h (places desk)) s.1 ∙ entries-placed desk.seen s.0 desk.own desk.joined ordered.0 ordered.1;
           apart = λ x.
               let most = (closed.mine x).0 in
               let a = times-append x closing.own (joined_up closing.joined) in

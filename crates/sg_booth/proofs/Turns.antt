@@ -3,18 +3,18 @@ use Rattle.std.proofs.Common.{◌≡◌, ℕ, ◌+◌, ◌-◌, ◌≤◌, ◌<�
 use Rattle.std.specs.Option.{unwrap_or, is_some}
 use mathlib.Core.Option.{some, some-injective}
 use Rattle.atomic_table.specs.Table.{Me}
-use Rattle.sg_booth.specs.declared.office.Exchange.{Exchange}
+use Rattle.sg_booth.specs.declared.office.OfficeExchange.{OfficeExchange}
 use Rattle.sg_booth.specs.declared.table.Notes.{Notes}
 use Rattle.sg_booth.specs.declared.table.ServedOffice.{ServedOffice}
-use Rattle.sg_booth.specs.Rule.{Makes, IsHistoryGiven, TakesStep, drawn, office_in}
+use Rattle.sg_booth.specs.Rule.{MakesOfficeCalls, IsHistoryGiven, TakesStep, drawn, office_in}
 
 module _ {V C R : Type 0} (step : V → C → R → V → Type 0) where
-  pub makes-more : (old mid new : V) (log : List (Exchange C R)) (e : Exchange C R) → Makes step old log mid → step mid e.call e.reply new → Makes step old (log ++ e ∷ []) new
+  pub makes-more : (old mid new : V) (log : List (OfficeExchange C R)) (e : OfficeExchange C R) → MakesOfficeCalls step old log mid → step mid e.call e.reply new → MakesOfficeCalls step old (log ++ e ∷ []) new
   makes-more old mid new [] e m s = (new, subst (λ v. step v e.call e.reply new) m s, refl)
   makes-more old mid new (x ∷ xs) e m s = (m.0, m.1, makes-more m.0 mid new xs e m.2 s)
 
 module _ {V C R : Type 0} (step : V → C → R → V → Type 0) (may : V → C → Type 0) (room : V → ℕ) where
-  pub given-more : (made mid new : V) (log : List (Exchange C R)) (e : Exchange C R) → IsHistoryGiven step may room made log mid → step mid e.call e.reply new → room mid ≤ room new + 1 → ((c : C) → may mid c → may new c)
+  pub given-more : (made mid new : V) (log : List (OfficeExchange C R)) (e : OfficeExchange C R) → IsHistoryGiven step may room made log mid → step mid e.call e.reply new → room mid ≤ room new + 1 → ((c : C) → may mid c → may new c)
       → IsHistoryGiven step may room made (log ++ e ∷ []) new
   given-more made mid new log e g s r m = record {
     makes = makes-more step made mid new log e g.makes s;
@@ -24,7 +24,7 @@ module _ {V C R : Type 0} (step : V → C → R → V → Type 0) (may : V → C
 
   -- the seat that has drawn and waited
   pub taken : (made : V) (m m1 m2 : Me (Option (ServedOffice V C R)) (Notes V C R)) (n : ℕ) → m.1 ≡ [] → m.0.made ≡ Some made → m1 ≡ (drawn m.0 n, m.1) → TakesStep step may room m1 m2
-      → (held : ServedOffice V C R) × (more : List (Exchange C R)) × (m2.1 ≡ (0, Some held) ∷ [])
+      → (held : ServedOffice V C R) × (more : List (OfficeExchange C R)) × (m2.1 ≡ (0, Some held) ∷ [])
       × (m2.0 ≡ record (m.0) { left = m.0.left - 1; ticket = n ∷ []; sure = 1; out = 1; seen = m.0.seen ++ more })
       × IsHistoryGiven step may room made (m.0.seen ++ more) held.office × (0 < room held.office)
   taken made m m1 m2 n none_held made_is draws t = (

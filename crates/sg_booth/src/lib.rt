@@ -15,4 +15,4 @@ mod table;
 pub use booth::Booth;
 pub use desk::Desk;
 pub use laws::{calls_stay, lies_as_given, receipts_stand};
-pub use office::{Exchange, Office};
+pub use office::{Office, OfficeExchange};

@@ -28,7 +28,7 @@ pub trait Office {
 }
 
 /// A call with its reply.
-pub struct Exchange<C, R> {
+pub struct OfficeExchange<C, R> {
     pub call: C,
     pub reply: R,
 }

@@ -23,7 +23,8 @@ long_ago = record { at = pos 0; offset = pos 0 }
 -- what syslog-ng makes of a record that it can't read
 abbrev pub unread_pairs : List ℕ → List NameValue
 unread_pairs payload = (record { name = codes "PROGRAM"; value = codes "syslog-ng" })
-    ∷ (record { name = codes "MESSAGE"; value = codes "Error processing log message: " ++ payload }) ∷ []
+    ∷ (record { name = codes "MESSAGE"; value = codes "Error processing log message: " ++ payload })
+    ∷ []
 
 abbrev pub unread_content : List ℕ → Content
 unread_content payload = record {

@@ -37,8 +37,10 @@ upgraded bytes = payload_or bytes (if is_older bytes then renewed bytes (reading
 chosen-fits : (old new : List ℕ) (fits : Bool) → is_payload new ≡ fits → IsPayload old
     → IsPayload (if fits then new else old)
 chosen-fits old new true e is = record {
-  some = leb-true 1 (length new) (and_parts (nat_le 1 (length new)) (nat_le (length new) (2 ^ 30 + 64)) e).0;
-  limit = leb-true (length new) (2 ^ 30 + 64) (and_parts (nat_le 1 (length new)) (nat_le (length new) (2 ^ 30 + 64)) e).1;
+  some = leb-true 1 (length new)
+      (and_parts (nat_le 1 (length new)) (nat_le (length new) (2 ^ 30 + 64)) e).0;
+  limit = leb-true (length new) (2 ^ 30 + 64)
+      (and_parts (nat_le 1 (length new)) (nat_le (length new) (2 ^ 30 + 64)) e).1;
 }
 chosen-fits old new false e is = is
 

@@ -17,7 +17,8 @@ use Rattle.sg_buffer.specs.Heads.{head_of}
 
 -- These entries were found. Over a disk that tells its bytes they are those of the list; where none is of format 1, each is
 -- spelled in format 2.
-pub record FindsEntries (disk : DiskState) (rows : Rows) (found : BufferEntries) (entries : List Kept) : Type 0 where
+pub record FindsEntries (disk : DiskState) (rows : Rows) (found : BufferEntries)
+    (entries : List Kept) : Type 0 where
   pub heads : found.heads.items ≡ map head_of entries
   pub kept : AreKept entries
   pub count : rows.count ≡ length entries

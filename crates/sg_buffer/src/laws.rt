@@ -31,7 +31,8 @@ pub fn lists_are_one()
 /// Where the payloads of a disk-buffer spell entries, the messages of its first payloads are those of the
 /// first entries.
 pub fn first_messages_are_kept()
-    ensures { (disk : DiskState) (n : ℕ) (messages : List Content) → AreFirstMessages disk n messages
+    ensures { (disk : DiskState) (n : ℕ) (messages : List Content)
+        → AreFirstMessages disk n messages
         → AreFirstKept disk n messages }
 {
     spellings_are_read();

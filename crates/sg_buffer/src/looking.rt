@@ -57,7 +57,8 @@ fn add(
 ) -> Result<(), StoreRefusal>
     requires { IsPayload payload.now }
     ensures added { OnOk result
-        ((kept : Entry) × IsStoredAs kept payload.now × AddsEntry kept payload.now found.old found.new) }
+        ((kept : Entry) × IsStoredAs kept payload.now
+        × AddsEntry kept payload.now found.old found.new) }
     ensures reason { IfErr result (AddReason payload.now gate) }
 {
     let older = is_format1(payload);

@@ -32,7 +32,8 @@ pub fn renew<D: Disk>(
         → Within (D.state spool.old.disk) (D.state spool.new.disk) (IsListOf entries) }
     ensures renewed { OnOk result ((entries : List Entry) (payloads : Entries)
         → FindsEntries (D.state spool.old.disk) spool.old.rows found.now entries
-        → RingHolds D.state spool.old payloads [] → RingHolds D.state spool.new (spelled entries) []) }
+        → RingHolds D.state spool.old payloads []
+        → RingHolds D.state spool.new (spelled entries) []) }
     ensures size { OnOk result ((entries : List Entry)
         → FindsEntries (D.state spool.old.disk) spool.old.rows found.now entries
         → live spool.new.rows.list ≡ size_of entries) }

@@ -18,11 +18,13 @@ abbrev pub ◌>>=◌ : {A B : Type 0} → Result A ℕ → (A → Result B ℕ) 
 
 -- so many bytes
 unfoldable pub bytes_at : ℕ → List ℕ → Result (List ℕ × List ℕ) ℕ
-bytes_at count bytes = if nat_lt (length bytes) count then Err (length bytes) else Ok (take count bytes, drop count bytes)
+bytes_at count bytes = if nat_lt (length bytes) count then Err (length bytes)
+    else Ok (take count bytes, drop count bytes)
 
 unfoldable pub number_at : Width → List ℕ → Result (ℕ × List ℕ) ℕ
 number_at width bytes =
-    if nat_lt (length bytes) (byte_len width) then Err (length bytes) else Ok (from_be_bytes width (take (byte_len width) bytes), drop (byte_len width) bytes)
+    if nat_lt (length bytes) (byte_len width) then Err (length bytes)
+    else Ok (from_be_bytes width (take (byte_len width) bytes), drop (byte_len width) bytes)
 
 -- 0 or 1
 unfoldable pub flag_at : List ℕ → Result (Bool × List ℕ) ℕ
@@ -122,13 +124,25 @@ head_at bytes = do
 
 abbrev pub kept_of : KeptPrefix → Stamp → List (List ℕ) → List NameValue → Kept
 kept_of head received tags pairs =
-    record { source = head.source; end = head.end; flow = head.flow; message = record { pri = head.pri; sent = head.sent; received = received; pairs = pairs; tags = tags } }
+    record {
+      source = head.source;
+      end = head.end;
+      flow = head.flow;
+      message = record {
+        pri = head.pri;
+        sent = head.sent;
+        received = received;
+        pairs = pairs;
+        tags = tags;
+      };
+    }
 
 -- the pairs, behind which nothing follows
 unfoldable pub last_at : KeptPrefix → Stamp → List (List ℕ) → List ℕ → Result Kept ℕ
 last_at head received tags bytes = do
   pairs ← pair_list_at bytes
-  if nat_lt 0 (length pairs.1) then Err (length pairs.1) else Ok (kept_of head received tags pairs.0)
+  if nat_lt 0 (length pairs.1) then Err (length pairs.1)
+      else Ok (kept_of head received tags pairs.0)
 
 unfoldable pub format1_at : List ℕ → Result Kept ℕ
 format1_at bytes = do

@@ -16,7 +16,8 @@ use std::alloc::Global;
 
 fn take_tags(builder: &mut MessageBuilder, count: u32, rest: &mut Bytes) -> Result<(), DecodeStop>
     requires { builder.old.tags ≡ [] }
-    ensures field { GivesField (λ _. (builder.new.tags, rest.new)) result (tags_at count [] rest.old) }
+    ensures field { GivesField (λ _. (builder.new.tags, rest.new)) result
+        (tags_at count [] rest.old) }
     ensures others { OnOk result (builder.new ≡ record builder.old { tags = builder.new.tags }) }
 {
     for place in 0..count {
@@ -55,7 +56,8 @@ fn append(builder: &mut MessageBuilder, name: &Bytes, value: Bytes) -> Result<()
 
 fn take_pairs(builder: &mut MessageBuilder, count: u32, rest: &mut Bytes) -> Result<(), DecodeStop>
     requires { builder.old.put ≡ [] }
-    ensures field { GivesField (λ _. (builder.new.put, rest.new)) result (pairs_at count [] rest.old) }
+    ensures field { GivesField (λ _. (builder.new.put, rest.new)) result
+        (pairs_at count [] rest.old) }
     ensures others { OnOk result (builder.new ≡ record builder.old { put = builder.new.put }) }
     ensures ascending { OnOk result (IsAscending builder.new.put) }
 {

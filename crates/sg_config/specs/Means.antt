@@ -5,7 +5,7 @@ use Rattle.sg_lex.specs.declared.fault.ConfigFault.{ConfigFault}
 use Rattle.sg_parse_obj.specs.Objects.{spots_at}
 use Rattle.sg_parse_obj.specs.declared.whole.ParseRefusal.TheVariants.{Bad as Unparsed}
 use Rattle.sg_parse_text.specs.declared.statement.Statement.{Statement}
-use Rattle.sg_parse_text.specs.Answers.{Refuses}
+use Rattle.sg_parse_text.specs.Answers.{RefusesParse}
 use Rattle.sg_parse_text.specs.Grammar.{IsConfigText}
 use Rattle.sg_parse_text.specs.Texts.{text_at}
 use Rattle.sg_fault.specs.declared.placed.Placed.{Placed}
@@ -43,7 +43,7 @@ pub record Means (tokens : List Token) (config : Config) : Type 0 where
 
 -- the tokens are no statements, and this is the first token at which that shows
 abbrev pub IsUnparsed : List Token → ConfigFault → Type 0
-IsUnparsed tokens fault = Refuses tokens (text_at (spots_at tokens 0)) (Unparsed fault)
+IsUnparsed tokens fault = RefusesParse tokens (text_at (spots_at tokens 0)) (Unparsed fault)
 
 -- the first thing that is wrong with statements
 abbrev pub IsUnresolved : List Statement → ConfigFault → Type 0

@@ -29,7 +29,8 @@ is_for buffers s p = p.taken
 -- their blocks, in order
 abbrev pub blocks_for : List (Option BufferSetup) → ℕ → List Payload → List (Option (List ℕ))
 blocks_for buffers s [] = []
-blocks_for buffers s (p ∷ ps) = if is_for buffers s p then p.block ∷ blocks_for buffers s ps else blocks_for buffers s ps
+blocks_for buffers s (p ∷ ps) =
+    if is_for buffers s p then p.block ∷ blocks_for buffers s ps else blocks_for buffers s ps
 
 -- one is taken at d
 abbrev pub is_staged : ℕ → List Payload → Bool
@@ -64,7 +65,8 @@ pub record Staged (old new : StoreState) (blocks : List (Option (List ℕ))) : T
   pub appends : (ks : List BufferedEntry) → length ks ≡ length blocks → old.failed ≡ false
       → AreNext old [] blocks ks → IsAppending old new ks
 
-pub record StagedAll (olds news : List StoreState) (buffers : List (Option BufferSetup)) (payloads : List Payload) : Type 0 where
+pub record StagedAll (olds news : List StoreState) (buffers : List (Option BufferSetup))
+    (payloads : List Payload) : Type 0 where
   pub count : length news ≡ length olds
   pub each : (s : ℕ) (old new : StoreState) → slice_get olds s ≡ Some old
       → slice_get news s ≡ Some new → Staged old new (blocks_for buffers s payloads)
@@ -76,7 +78,8 @@ pub record Committed (old new : StoreState) (staged fails : Bool) : Type 0 where
   pub failed : fails ≡ (staged && new.failed)
 
 -- of all disk-buffers; other stores stay, and a destination without one doesn't fail
-pub record CommittedAll (olds news : List StoreState) (buffers : List (Option BufferSetup)) (staged fails : List Bool) : Type 0 where
+pub record CommittedAll (olds news : List StoreState) (buffers : List (Option BufferSetup))
+    (staged fails : List Bool) : Type 0 where
   pub count : length news ≡ length olds
   pub goes : (s : ℕ) (old new : StoreState) → slice_get olds s ≡ Some old
       → slice_get news s ≡ Some new → StoreGoesOn old new
@@ -90,16 +93,19 @@ pub record CommittedAll (olds news : List StoreState) (buffers : List (Option Bu
   pub unbacked : (d : ℕ) → buffer_at buffers d ≡ None → fails_at fails d ≡ false
 
 -- the blocks are appended in one commit; where there are any, whether the store fails
-pub record AppendedBlocks (old new : StoreState) (blocks : List (Option (List ℕ))) (fails : Bool) : Type 0 where
+pub record AppendedBlocks (old new : StoreState) (blocks : List (Option (List ℕ)))
+    (fails : Bool) : Type 0 where
   pub goes : StoreGoesOn old new
   pub none : blocks ≡ [] → new ≡ old
   pub before : old.failed ≡ true → new ≡ old
   pub some : blocks ≢ [] → fails ≡ new.failed
   pub quiet : blocks ≡ [] → fails ≡ false
-  pub appends : (ks : List BufferedEntry) → length ks ≡ length blocks → blocks ≢ [] → old.failed ≡ false
+  pub appends : (ks : List BufferedEntry) → length ks ≡ length blocks → blocks ≢ []
+      → old.failed ≡ false
       → AreNext old [] blocks ks → IsAppended old new ks
 
-pub record AppendedAll (olds news : List StoreState) (buffers : List (Option BufferSetup)) (payloads : List Payload) (fails : List Bool) : Type 0 where
+pub record AppendedAll (olds news : List StoreState) (buffers : List (Option BufferSetup))
+    (payloads : List Payload) (fails : List Bool) : Type 0 where
   pub all_go : AllGo olds news
   pub each : (d : ℕ) (buffer : BufferSetup) (old new : StoreState)
       → buffer_at buffers d ≡ Some buffer → slice_get olds buffer.store ≡ Some old

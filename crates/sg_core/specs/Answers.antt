@@ -72,7 +72,8 @@ AnswersStore position old new Broken = (position_of old ≢ position)
 
 -- how many messages `front` shows: of those on the disk, where there are some, else of those that wait
 abbrev pub shown_of : ℕ → SinkState → ℕ
-shown_of most sink = if length sink.lengths == 0 then min most (length sink.entries) else run_of most sink.lengths
+shown_of most sink = if length sink.lengths == 0 then min most (length sink.entries)
+    else run_of most sink.lengths
 
 -- So many messages, from the place of the first; those that wait are known. None is left, and the store works. It has failed
 -- before, or in this call.
@@ -87,7 +88,8 @@ AnswersFront old new most FrontBroken = new ≡ with_broken old
 -- there is no disk-buffer, or its disk tells its bytes
 abbrev pub IsBufferTold : List StoreState → Option BufferSetup → Type 0
 IsBufferTold stores None = Unit {0}
-IsBufferTold stores (Some buffer) = option_map (λ (store : StoreState). is_some (content store.disk))
+IsBufferTold stores (Some buffer) =
+    option_map (λ (store : StoreState). is_some (content store.disk))
     (slice_get stores buffer.store) ≡ Some true
 
 -- the messages are those of the first entries that are left
@@ -147,7 +149,8 @@ refill_act d RefillBroken = Look
 abbrev pub fitting : ℕ → Trial → List Waiting → ℕ
 fitting zero trial es = 0
 fitting (suc n) trial [] = 0
-fitting (suc n) trial (e ∷ es) = if takes_in (encoded_len e.message) trial then 1 + fitting n (tried true (encoded_len e.message) trial) es else 0
+fitting (suc n) trial (e ∷ es) = if takes_in (encoded_len e.message) trial
+    then 1 + fitting n (tried true (encoded_len e.message) trial) es else 0
 
 -- The store has failed before or fails now; else nothing waits, or the first that waits doesn't fit, or as many as fit are moved, at
 -- most 1,000. Without a disk-buffer nothing waits for one.

@@ -34,7 +34,8 @@ CreditGives old i (CreditReply credit) new = HasTold old i credit new
 CreditGives old i reply new = ⊥
 
 -- records come in; or they don't, and come back
-pub record HasAdmitted (old : CoreState) (i : ℕ) (records : List Admission) (result : Result (List Verdict) Refused) (new : CoreState) : Type 0 where
+pub record HasAdmitted (old : CoreState) (i : ℕ) (records : List Admission)
+    (result : Result (List Verdict) Refused) (new : CoreState) : Type 0 where
   pub does : MatchResult result (λ verdicts. DoesAct old new (AdmitAct i records verdicts))
       (λ _. DoesAct old new Look)
   pub no_credit : (is_no_credit result ≡ true) ↔ (credit_at old.sources i < length records)
@@ -46,7 +47,8 @@ AdmitGives old i records (Admitted result) new = HasAdmitted old i records resul
 AdmitGives old i records reply new = ⊥
 
 -- the first entries are shown
-pub record HasShown {E : Type 0} (old : CoreState) (d most : ℕ) (result : Result CoreFront E) (new : CoreState) : Type 0 where
+pub record HasShown {E : Type 0} (old : CoreState) (d most : ℕ) (result : Result CoreFront E)
+    (new : CoreState) : Type 0 where
   pub does : DoesAct old new Look
   pub front : IfOk result (AnswersFrontAt (slice_get old.sinks d) (slice_get new.sinks d) most)
   pub shows : IfOk result (λ front. (state : State) (dest : Dest) → IsAt old state
@@ -58,7 +60,8 @@ FrontGives old d most (FrontReply result) new = HasShown old d most result new
 FrontGives old d most reply new = ⊥
 
 -- the first entries are settled, where the first has this place and so many are left
-pub record HasSettled (old : CoreState) (d place n : ℕ) (result : Settled) (new : CoreState) : Type 0 where
+pub record HasSettled (old : CoreState) (d place n : ℕ) (result : Settled)
+    (new : CoreState) : Type 0 where
   pub does : DoesAct old new (settle_act d n result)
   pub answer : AnswersSettle (can_settle_at old.sinks d place n) (broken_at new.sinks d) result
   pub same : OnNotFront result (new ≡ counted old)

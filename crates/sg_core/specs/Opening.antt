@@ -71,7 +71,11 @@ pub record AreKinds (dests : List DestSetup) (count : ℕ) (kinds : List StoreKi
 
 -- a source of no records, which begins at the position in its store
 abbrev pub opened_source : List StoreState → SourceSetup → Source
-opened_source stores setup = record { setup = setup; opening = stored_in stores setup.store; tracker = window_of setup.window 0 0 [] }
+opened_source stores setup = record {
+  setup = setup;
+  opening = stored_in stores setup.store;
+  tracker = window_of setup.window 0 0 [];
+}
 
 -- a destination with these entries on its disk
 abbrev pub recovers : SinkState → List EntryHead → SinkState
@@ -121,7 +125,8 @@ pub record IsOpen (setup : Setup) (disks : List DiskState) (core : CoreState) : 
       ≡ map (λ (s : SourceSetup). stored_in core.stores s.store) setup.sources
   pub every_list : length opening.entries ≡ length setup.dests
   pub lists :
-      (d : ℕ) (dest : DestSetup) (buffer : BufferSetup) (disk : DiskState) (list : List BufferedEntry)
+      (d : ℕ) (dest : DestSetup) (buffer : BufferSetup) (disk : DiskState)
+      (list : List BufferedEntry)
       → slice_get setup.dests d ≡ Some dest → dest.buffer ≡ Some buffer
       → slice_get disks buffer.store ≡ Some disk → slice_get opening.entries d ≡ Some list
       → WhereTold (content disk) (IsListOf (map coded list))
@@ -131,7 +136,8 @@ pub record IsOpen (setup : Setup) (disks : List DiskState) (core : CoreState) : 
   pub setups : setup_of core ≡ setup
 
 -- the core wasn't opened
-pub record IsUnopened (setup : Setup) (olds news : List DiskState) (refusal : CoreRefusal) : Type 0 where
+pub record IsUnopened (setup : Setup) (olds news : List DiskState)
+    (refusal : CoreRefusal) : Type 0 where
   pub kinds : List StoreKind
   pub kinds_are : AreKinds setup.dests (length olds) kinds
   pub refused : AreStoresRefused kinds olds news refusal

@@ -42,12 +42,20 @@ CanAckAll sources (e ∷ es) = (e.flow ≡ true → CanAck (slice_get sources e.
 
 -- the first n that wait are settled
 abbrev pub settled_waiting_some : ℕ → SinkState → SinkState
-settled_waiting_some n sink = record sink { taken = sink.taken + n; entries = drop n sink.entries; blocks = drop n sink.blocks }
+settled_waiting_some n sink = record sink {
+  taken = sink.taken + n;
+  entries = drop n sink.entries;
+  blocks = drop n sink.blocks;
+}
 
 -- or stand on the disk
 abbrev pub moved_some : ℕ → SinkState → SinkState
 moved_some n sink =
-    record sink { lengths = sink.lengths ++ map (λ (e : Entry). encoded_len e.message) (take n sink.entries); entries = drop n sink.entries; blocks = drop n sink.blocks }
+    record sink {
+      lengths = sink.lengths ++ map (λ (e : Entry). encoded_len e.message) (take n sink.entries);
+      entries = drop n sink.entries;
+      blocks = drop n sink.blocks;
+    }
 
 -- the first n of these fit, each behind the ones before, where so much is taken
 abbrev pub FitSome : ℕ → ℕ → ℕ → List Entry → Type 0

@@ -30,7 +30,8 @@ TakesOff olds news (Some buffer) false n size works = Advancing olds news buffer
 -- Appends.
 
 -- these blocks spell these entries, each of which fits behind those before
-abbrev pub AreNext : StoreState → List BufferedEntry → List (Option (List ℕ)) → List BufferedEntry → Type 0
+abbrev pub AreNext : StoreState → List BufferedEntry → List (Option (List ℕ)) → List BufferedEntry
+    → Type 0
 AreNext start tried blocks [] = Unit {0}
 AreNext start tried [] (k ∷ ks) = ⊥
 AreNext start tried (None ∷ blocks) (k ∷ ks) = ⊥
@@ -38,12 +39,14 @@ AreNext start tried (Some payload ∷ blocks) (k ∷ ks) = IsNextPayload start t
     × AreNext start (tried ++ k ∷ []) blocks ks
 
 -- the first n blocks are appended in one commit; the other stores stay as they are
-pub record AppendsAt (olds news : List StoreState) (s : ℕ) (blocks : List (Option (List ℕ))) (n : ℕ) (answer : Bool) : Type 0 where
+pub record AppendsAt (olds news : List StoreState) (s : ℕ) (blocks : List (Option (List ℕ))) (n : ℕ)
+    (answer : Bool) : Type 0 where
   pub old : StoreState
   pub new : StoreState
   pub was : slice_get olds s ≡ Some old
   pub others : news ≡ change olds s (λ _. new)
   pub works : answer ≡ not new.failed
   pub goes : StoreGoesOn old new
-  pub appends : (ks : List BufferedEntry) → length ks ≡ n → old.failed ≡ false → AreNext old [] blocks ks
+  pub appends : (ks : List BufferedEntry) → length ks ≡ n → old.failed ≡ false
+      → AreNext old [] blocks ks
       → IsAppended old new ks

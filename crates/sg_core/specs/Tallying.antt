@@ -25,4 +25,9 @@ source_tally_of stores source = record {
 }
 
 abbrev pub sink_tally_of : SinkState → DestTally
-sink_tally_of sink = record { taken = sink.taken; dropped_full = sink.dropped_full; dropped_disk = sink.dropped_disk; left = length sink.lengths + length sink.entries }
+sink_tally_of sink = record {
+  taken = sink.taken;
+  dropped_full = sink.dropped_full;
+  dropped_disk = sink.dropped_disk;
+  left = length sink.lengths + length sink.entries;
+}

@@ -4,7 +4,7 @@ use Rattle.std.proofs.lemmas.Bool.{cases_eq}
 use Rattle.std.proofs.lemmas.List.{append-nil, map-append}
 use Rattle.sg_list.proofs.ListLemmas.{slice_get-some, slice_get-below, some-same}
 use Rattle.sg_booth.specs.Lists.{times, joined_up}
-use Rattle.sg_booth.specs.Rule.{Makes as MakesAll}
+use Rattle.sg_booth.specs.Rule.{MakesOfficeCalls as MakesAll}
 use Rattle.sg_booth.specs.Desks.{ArePlacesOrdered, places, HasClosed}
 use Rattle.sg_booth.proofs.Sums.{times-append}
 use Rattle.sg_counter.specs.Exchanges.{Exchange, Caller, OfSource, OfDest, calls_by}

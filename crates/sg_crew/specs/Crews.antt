@@ -47,7 +47,8 @@ pub record HasGathered (old : SeatState) (seats : List SeatState) (new : SeatSta
 -- Turns.
 
 -- A turn at a seat. Its calls are all this caller's.
-pub record WorkedOnce (takes : Turn → Type 0) (who : Caller) (hub : HubState) (old new : SeatState) (answer : Option Turned) (turn : Turn) : Type 0 where
+pub record WorkedOnce (takes : Turn → Type 0) (who : Caller) (hub : HubState) (old new : SeatState)
+    (answer : Option Turned) (turn : Turn) : Type 0 where
   pub took : takes turn
   pub makes : Makes (SeatStep hub) old turn.made new
   pub own : AllBy who turn.made
@@ -69,7 +70,8 @@ pub record EndsWith (turns : List Turn) (answer : Option Turned) : Type 0 where
   pub answered : turn.answer ≡ answer
 
 -- Turns at a seat, one after the other. Their calls are all this caller's.
-pub record WorkedWith (takes : List Turn → Type 0) (who : Caller) (hub : HubState) (old new : SeatState) (answer : Option Turned) (turns : List Turn) : Type 0 where
+pub record WorkedWith (takes : List Turn → Type 0) (who : Caller) (hub : HubState)
+    (old new : SeatState) (answer : Option Turned) (turns : List Turn) : Type 0 where
   pub took : takes turns
   pub makes : Makes (SeatStep hub) old (calls_of turns) new
   pub own : AllBy who (calls_of turns)
@@ -79,15 +81,18 @@ pub record WorkedWith (takes : List Turn → Type 0) (who : Caller) (hub : HubSt
 -- Phases: rounds in a row, with no step of the first seat between them.
 
 -- Of all turns but the last one each found memory, and of the last ones each did, or one didn't.
-pub record TellsPhase {K : Type 0} (within : K → Type 0) (turns : K → List Turn) (starved : Bool) : Type 0 where
+pub record TellsPhase {K : Type 0} (within : K → Type 0) (turns : K → List Turn)
+    (starved : Bool) : Type 0 where
   pub ends : (k : K) → within k → (answer : Option Turned) × EndsWith (turns k) answer
   pub starves : starved ≡ true → (k : K) × (within k × EndsWith (turns k) None)
   pub fed : starved ≡ false → (k : K) → within k
       → (turned : Turned) × EndsWith (turns k) (Some turned)
 
 -- Each actor took so many turns, and made these calls.
-pub record TookPhase {A B : Type 0} (source : A → A → Turn → Type 0) (dest : B → B → Turn → Type 0) (sources sources' : List A) (dests dests' : List B)
-    (number busy : ℕ) (starved : Bool) (made : List Exchange) (turns : Caller → List Turn) : Type 0 where
+pub record TookPhase {A B : Type 0} (source : A → A → Turn → Type 0) (dest : B → B → Turn → Type 0)
+    (sources sources' : List A) (dests dests' : List B)
+    (number busy : ℕ) (starved : Bool) (made : List Exchange)
+    (turns : Caller → List Turn) : Type 0 where
   pub sources_took : (i : ℕ) (a b : A) → slice_get sources i ≡ Some a
       → slice_get sources' i ≡ Some b → TookEach source a b (turns (OfSource i))
   pub dests_took : (d : ℕ) (a b : B) → slice_get dests d ≡ Some a → slice_get dests' d ≡ Some b
@@ -103,8 +108,11 @@ pub record TookPhase {A B : Type 0} (source : A → A → Turn → Type 0) (dest
 
 -- Of the history that the first seat has seen all is known where it has all calls of it, as the hub's close tells: then the calls of a phase
 -- stand behind those of the earlier ones.
-pub record HasPhaseWith {A B : Type 0} (source : A → A → Turn → Type 0) (dest : B → B → Turn → Type 0) (first first' : SeatState) (sources sources' : List A) (dests dests' : List B)
-    (number busy : ℕ) (starved : Bool) (more : List ToldCall) (turns : Caller → List Turn) : Type 0 where
+pub record HasPhaseWith {A B : Type 0} (source : A → A → Turn → Type 0)
+    (dest : B → B → Turn → Type 0) (first first' : SeatState) (sources sources' : List A)
+    (dests dests' : List B)
+    (number busy : ℕ) (starved : Bool) (more : List ToldCall)
+    (turns : Caller → List Turn) : Type 0 where
   pub seen : first'.seen ≡ first.seen ++ more
   pub before : AllSeen first' → AllSeen first
   pub took : AllSeen first' → TookPhase source dest sources sources' dests dests' number busy
@@ -116,7 +124,8 @@ abbrev pub HasPhase : {A B : Type 0} → (A → A → Turn → Type 0) → (B �
     → SeatState → List A → List A → List B → List B → ℕ → ℕ → Bool → Type 0
 HasPhase source dest first first' sources sources' dests dests' number busy starved =
     (more : List ToldCall) × ((turns : Caller → List Turn)
-    × HasPhaseWith source dest first first' sources sources' dests dests' number busy starved more turns)
+    × HasPhaseWith source dest first first' sources sources' dests dests' number busy starved more
+    turns)
 
 -- A phase of so many rounds at most: one round, or as many busy turns as rounds; where a turn found no memory, one fewer.
 pub record IsPhase (most rounds busy : ℕ) (starved : Bool) : Type 0 where
@@ -129,7 +138,8 @@ abbrev pub HasServed : {A B : Type 0} → (A → A → List Turn → Type 0) →
     → SeatState → List A → List A → List B → List B → ℕ → Ended → Type 0
 HasServed source dest first sources sources' dests dests' rounds ended =
     (account : Caller → List Turn) × ((number : ℕ)
-    × (AllSeen first → ServesWith source dest any_step (tt {0}) (tt {0}) sources sources' dests dests' rounds ended (exchanges_of first.seen) account number))
+    × (AllSeen first → ServesWith source dest any_step (tt {0}) (tt {0}) sources sources' dests
+    dests' rounds ended (exchanges_of first.seen) account number))
 
 -- Behind phases.
 

@@ -64,7 +64,8 @@ abbrev pub BeginsPhase : {A D : Type 0} → Worker A D → Type 0
 BeginsPhase w = (w.turns ≡ 0) × (w.busy ≡ 0) × (1024 ≤ w.seat.left)
 
 -- the source may take a turn
-pub record MayRead {R I D : Type 0} (state : I → InletState) (inlets dests : R → ℕ) (hub : HubState) (w : Worker (SourceActor R I) D) : Type 0 where
+pub record MayRead {R I D : Type 0} (state : I → InletState) (inlets dests : R → ℕ) (hub : HubState)
+    (w : Worker (SourceActor R I) D) : Type 0 where
   pub of_hub : IsDeskOf hub w.seat
   pub left : 4 ≤ w.seat.left
   pub fits : FitsSource (setup_of hub.made) w.actor.spec (inlets w.actor.router)
@@ -74,7 +75,8 @@ pub record MayRead {R I D : Type 0} (state : I → InletState) (inlets dests : R
   pub busy : w.busy ≤ w.turns
 
 -- the destination may take a turn
-pub record MaySend {O D : Type 0} (state : O → OutletState) (hub : HubState) (w : Worker (DestActor O) D) : Type 0 where
+pub record MaySend {O D : Type 0} (state : O → OutletState) (hub : HubState)
+    (w : Worker (DestActor O) D) : Type 0 where
   pub of_hub : IsDeskOf hub w.seat
   pub left : 4 ≤ w.seat.left
   pub dest : w.actor.spec.dest < length (setup_of hub.made).dests
@@ -88,14 +90,17 @@ pub record IsTurnCounted {A D : Type 0} (w v : Worker A D) (turn : Turn) : Type 
   pub busy : v.busy ≡ w.busy + one_if (is_busy turn)
 
 -- the source took a turn
-pub record ReadsOnce {R I D : Type 0} (state : I → InletState) (offers : R → ℕ → Record → List Offer → Type 0) (inlets dests : R → ℕ) (hub : HubState) (w v : Worker (SourceActor R I) D) : Type 0 where
+pub record ReadsOnce {R I D : Type 0} (state : I → InletState)
+    (offers : R → ℕ → Record → List Offer → Type 0) (inlets dests : R → ℕ) (hub : HubState)
+    (w v : Worker (SourceActor R I) D) : Type 0 where
   pub turn : Turn
   pub worked : WorkedOnce (SourceTakes state offers inlets dests w.actor v.actor)
       (OfSource w.actor.spec.inlet) hub w.seat v.seat v.turn turn
   pub counted : IsTurnCounted w v turn
 
 -- the destination took a turn
-pub record SendsOnce {O D : Type 0} (state : O → OutletState) (hub : HubState) (w v : Worker (DestActor O) D) : Type 0 where
+pub record SendsOnce {O D : Type 0} (state : O → OutletState) (hub : HubState)
+    (w v : Worker (DestActor O) D) : Type 0 where
   pub turn : Turn
   pub worked : WorkedOnce (DestTakes state w.actor v.actor) (OfDest w.actor.spec.dest) hub w.seat
       v.seat v.turn turn
@@ -108,21 +113,27 @@ pub record AreCounted {A D : Type 0} (v : Worker A D) (turns : List Turn) : Type
   pub few : v.turns ≤ 256
 
 -- the source took its turns of a phase
-pub record HasReadPhase {R I D : Type 0} (state : I → InletState) (offers : R → ℕ → Record → List Offer → Type 0) (inlets dests : R → ℕ) (hub : HubState) (w v : Worker (SourceActor R I) D) : Type 0 where
+pub record HasReadPhase {R I D : Type 0} (state : I → InletState)
+    (offers : R → ℕ → Record → List Offer → Type 0) (inlets dests : R → ℕ) (hub : HubState)
+    (w v : Worker (SourceActor R I) D) : Type 0 where
   pub turns : List Turn
   pub worked : WorkedWith (TookEach (SourceTakes state offers inlets dests) w.actor v.actor)
       (OfSource w.actor.spec.inlet) hub w.seat v.seat v.turn turns
   pub counted : AreCounted v turns
 
 -- the destination took its turns of a phase
-pub record HasSent {O D : Type 0} (state : O → OutletState) (hub : HubState) (w v : Worker (DestActor O) D) : Type 0 where
+pub record HasSent {O D : Type 0} (state : O → OutletState) (hub : HubState)
+    (w v : Worker (DestActor O) D) : Type 0 where
   pub turns : List Turn
-  pub worked : WorkedWith (TookEach (DestTakes state) w.actor v.actor) (OfDest w.actor.spec.dest) hub w.seat
+  pub worked : WorkedWith (TookEach (DestTakes state) w.actor v.actor) (OfDest w.actor.spec.dest)
+      hub w.seat
       v.seat v.turn turns
   pub counted : AreCounted v turns
 
 -- as many sources and destinations, for the same setup
-pub record AreCrew {R I O D : Type 0} (state : I → InletState) (inlets dests_of : R → ℕ) (state' : O → OutletState) (hub : HubState) (readers readers' : List (Worker (SourceActor R I) D))
+pub record AreCrew {R I O D : Type 0} (state : I → InletState) (inlets dests_of : R → ℕ)
+    (state' : O → OutletState) (hub : HubState)
+    (readers readers' : List (Worker (SourceActor R I) D))
     (senders senders' : List (Worker (DestActor O) D)) : Type 0 where
   pub sources : AreSources state inlets dests_of (setup_of hub.made) (actors_of readers')
   pub dests : AreDests state' (setup_of hub.made) (actors_of senders')

@@ -7,12 +7,15 @@ mod hold;
 mod look;
 mod meeting;
 mod meter;
+mod passed;
 mod phase;
 mod pool;
 mod rounds;
 mod run;
 mod together;
+mod watch;
 mod work;
 mod worker;
 
 pub use run::serve;
+pub use watch::{DestLook, Offered, SourceLook, Watch};

@@ -1,14 +1,16 @@
-// A seat that counts the records that come in through it.
-ghost use Rattle.std.specs.Prelude.{◌≡◌, ◌≤◌, ◌<◌, Ok, Err, MatchResult, IfErr, IsSome, length};
+// Seats that count what passes them.
+ghost use Rattle.std.specs.Prelude.{◌≡◌, ◌≤◌, ◌<◌, ◌+◌, Ok, Err, MatchResult, IfErr, IsSome, length};
 ghost use Rattle.sg_booth.specs.Desks.{IsDeskOf};
+ghost use Rattle.sg_device.specs.Outlet.{count_of};
 ghost use Rattle.sg_standing.specs.States.{setup_of};
 ghost use Rattle.sg_counter.specs.Bringing.{IsBatch, store_in, records_back};
 ghost use Rattle.sg_counter.specs.declared.calls.CoreCall.{CoreCall as ACall};
 ghost use Rattle.sg_counter.specs.declared.calls.CoreReply.{CoreReply as AReply};
 ghost use Rattle.sg_hub.specs.Seats.{SeatStep};
 
-use sg_counter::{CoreFront, Counter, Refill, Refused, Stored};
-use sg_device::{Disk, NoMemory};
+use crate::passed::SeatCounts;
+use sg_counter::{CoreFront, Counter, Refill, Refused, Settled, Settler, Stored};
+use sg_device::{Disk, NoMemory, Outlet, Taken};
 use sg_hub::{Hub, HubSeat, Seat};
 use sg_machine::{Admission, Verdict};
 use std::alloc::Global;
@@ -21,6 +23,7 @@ pub(crate) struct Metered<'a, D: Disk> {
     pub(crate) seat: &'a mut Seat<D>,
     /// How many records were brought in last.
     pub(crate) records: usize,
+    pub(crate) passed: &'a mut SeatCounts,
     pub(crate) ghost of_hub: { IsDeskOf hub.now seat.now },
 }
 
@@ -109,10 +112,13 @@ impl<'a, D: Disk> Counter for Metered<'a, D> {
     ghost left = { λ s. s.seat.now.left };
 
     ghost step = { λ old call reply new. (new.seat.ghost_name ≡ old.seat.ghost_name)
-        × (new.hub ≡ old.hub) × SeatStep old.hub.now old.seat.now call reply new.seat.now };
+        × (new.passed.ghost_name ≡ old.passed.ghost_name) × (new.hub ≡ old.hub)
+        × SeatStep old.hub.now old.seat.now call reply new.seat.now };
 
     fn credit<T: Wait>(&mut self, rt: &T, i: u32) -> u64 {
-        credit_at(self.hub, rt, self.seat, i)
+        let credit = credit_at(self.hub, rt, self.seat, i);
+        self.passed.ask(credit);
+        credit
     }
 
     fn admit<T: Wait>(
@@ -122,8 +128,14 @@ impl<'a, D: Disk> Counter for Metered<'a, D> {
         i: u32,
         records: Vec<Admission>,
     ) -> Result<Vec<Verdict>, Refused> {
-        self.records = records.len();
-        admit_at(self.hub, rt, alloc, self.seat, i, records)
+        let count = records.len();
+        self.records = count;
+        self.passed.begin(&records);
+        let admitted = admit_at(self.hub, rt, alloc, self.seat, i, records);
+        if let Ok(verdicts) = &admitted {
+            self.passed.end(count, verdicts);
+        }
+        admitted
     }
 
     fn front<T: Wait>(
@@ -141,6 +153,105 @@ impl<'a, D: Disk> Counter for Metered<'a, D> {
     }
 
     fn store<T: Wait>(&mut self, rt: &T, i: u32) -> Stored {
+        let stored = store_at(self.hub, rt, self.seat, i);
+        self.passed.store(stored);
+        stored
+    }
+}
+
+/// A destination's seat at its hub.
+#[derive(Drop)]
+pub(crate) struct MeteredDest<'a, D: Disk> {
+    pub(crate) hub: &'a Hub<D>,
+    pub(crate) seat: &'a mut Seat<D>,
+    pub(crate) passed: &'a mut SeatCounts,
+    pub(crate) ghost of_hub: { IsDeskOf hub.now seat.now },
+}
+
+fn settle_at<T: Wait, D: Disk, O: Outlet>(
+    hub: &Hub<D>,
+    rt: &T,
+    seat: &mut Seat<D>,
+    d: u32,
+    place: u64,
+    n: u32,
+    taken: Taken<O>,
+) -> Settled
+    requires seat { IsDeskOf hub.now seat.old }
+    requires left { 0 < seat.old.left }
+    requires dest { d < length (setup_of hub.now.made).dests }
+    requires some { 0 < n }
+    ensures step { SeatStep hub.entry.now seat.old (ACall.Settle d place n (count_of taken))
+        (AReply.Settled result) seat.new }
+{
+    let mut at = HubSeat { hub, seat };
+    at.settle(rt, d, place, n, taken)
+}
+
+impl<'a, D: Disk> Counter for MeteredDest<'a, D> {
+    ghost use Rattle.std.specs.Prelude.{◌≡◌};
+    ghost use Rattle.sg_standing.specs.States.{setup_of};
+    ghost use Rattle.sg_hub.specs.Seats.{SeatStep};
+
+    ghost setup = { λ s. setup_of s.hub.now.made };
+
+    ghost left = { λ s. s.seat.now.left };
+
+    ghost step = { λ old call reply new. (new.seat.ghost_name ≡ old.seat.ghost_name)
+        × (new.passed.ghost_name ≡ old.passed.ghost_name) × (new.hub ≡ old.hub)
+        × SeatStep old.hub.now old.seat.now call reply new.seat.now };
+
+    fn credit<T: Wait>(&mut self, rt: &T, i: u32) -> u64 {
+        credit_at(self.hub, rt, self.seat, i)
+    }
+
+    fn admit<T: Wait>(
+        &mut self,
+        rt: &T,
+        alloc: Global,
+        i: u32,
+        records: Vec<Admission>,
+    ) -> Result<Vec<Verdict>, Refused> {
+        admit_at(self.hub, rt, alloc, self.seat, i, records)
+    }
+
+    fn front<T: Wait>(
+        &mut self,
+        rt: &T,
+        alloc: Global,
+        d: u32,
+        most: u32,
+    ) -> Result<CoreFront, NoMemory> {
+        let front = front_at(self.hub, rt, alloc, self.seat, d, most);
+        self.passed.show(&front);
+        front
+    }
+
+    fn refill<T: Wait>(&mut self, rt: &T, d: u32) -> Refill {
+        refill_at(self.hub, rt, self.seat, d)
+    }
+
+    fn store<T: Wait>(&mut self, rt: &T, i: u32) -> Stored {
         store_at(self.hub, rt, self.seat, i)
+    }
+}
+
+/// It settles what any outlet has taken.
+impl<'a, D: Disk, O: Outlet> Settler<O> for MeteredDest<'a, D> {
+    fn settle<T: Wait>(&mut self, rt: &T, d: u32, place: u64, n: u32, taken: Taken<O>) -> Settled
+        requires left { 0 < self.old.seat.now.left }
+        requires dest { d < length (setup_of self.old.hub.now.made).dests }
+        requires some { 0 < n }
+        ensures step { (self.new.seat.ghost_name ≡ self.old.seat.ghost_name)
+            × (self.new.passed.ghost_name ≡ self.old.passed.ghost_name)
+            × (self.new.hub ≡ self.old.hub)
+            × SeatStep self.old.hub.now self.old.seat.now
+            (ACall.Settle d place n (count_of taken)) (AReply.Settled result) self.new.seat.now }
+        ensures setup { setup_of self.new.hub.now.made ≡ setup_of self.old.hub.now.made }
+        ensures left { self.old.seat.now.left ≤ self.new.seat.now.left + 1 }
+    {
+        let settled = settle_at(self.hub, rt, self.seat, d, place, n, taken);
+        self.passed.settle(n, settled);
+        settled
     }
 }

@@ -8,10 +8,12 @@ ghost use Rattle.sg_crew.specs.Crews.{HasServed, IsFirstSeat};
 
 use crate::meeting::WORTH;
 use crate::phase::{MOST, Phase, take_phase};
+use crate::watch::{Watch, look_if_due};
 use crate::worker::Worker;
 use sg_actor::{DestActor, SourceActor};
 use sg_device::{Disk, Inlet, Outlet};
 use sg_hub::{Hub, Seat};
+use sg_outside::Machine;
 use sg_route::Router;
 use sg_turns::Ended;
 use std::alloc::Global;
@@ -69,9 +71,10 @@ fn threads_after(phase: Phase, threads: usize, pause: Pause) -> usize {
 }
 
 // How many rounds a phase has at most where so many are left: one on this thread, and on threads all but one, so that
-// the last round is a phase of its own.
-fn rounds_of(left: u64, threads: usize) -> u64
-    requires { 0 < left }
+// the last round is a phase of its own; and no more than the watch lets pass between two looks.
+fn rounds_of(left: u64, threads: usize, most: u64) -> u64
+    requires left { 0 < left }
+    requires most { 0 < most }
     ensures some { 0 < result }
     ensures left { result ≤ left }
     ensures last { 1 < result → result < left }
@@ -82,17 +85,19 @@ fn rounds_of(left: u64, threads: usize) -> u64
     if left < 3 {
         return 1;
     }
-    (left - 1).min(MOST)
+    (left - 1).min(MOST).min(most)
 }
 
 /// Runs so many rounds at most. The first quiet one is the last, and so is one in which a turn finds no
 /// memory.
 pub(crate) fn run_rounds<
     T: Threads + Wait + Eprint + Sync,
-    R: Router + Send,
+    R: Router + Send + Drop,
     I: Inlet + Send,
     O: Outlet + Send,
     D: Disk + Send,
+    W: Machine,
+    V: Watch<W>,
 >(
     rt: &T,
     alloc: Global,
@@ -102,6 +107,8 @@ pub(crate) fn run_rounds<
     dests: &mut Vec<Worker<DestActor<O>, D>>,
     rounds: u64,
     threads: usize,
+    watch: &mut V,
+    world: &mut W,
 ) -> Ended
     requires some { 0 < rounds }
     requires first { first.old ≡ first_desk hub.now }
@@ -116,12 +123,14 @@ pub(crate) fn run_rounds<
         (actors_of dests.old.items) (actors_of dests.new.items) rounds result }
     ensures crew { AreCrew I.state R.inlets R.dests O.state hub.entry.now sources.old.items
         sources.new.items dests.old.items dests.new.items }
+    ensures world { W.state world.new ≡ W.state world.old }
 {
     let mut left = rounds;
     let mut pause = Pause::none();
     let mut beside = threads;
     while left > 0 {
-        let most = rounds_of(left, beside);
+        look_if_due(alloc, sources, dests, watch, world);
+        let most = rounds_of(left, beside, watch.most().max(1));
         let phase = take_phase(rt, alloc, hub, first, sources, dests, beside, most);
         if phase.starved {
             return Ended::NoMemory;

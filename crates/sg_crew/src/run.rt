@@ -8,12 +8,14 @@ ghost use Rattle.sg_turns.specs.Serving.{ServesRounds};
 ghost use Rattle.sg_crew.specs.Rooms.{IsRoom};
 
 use crate::rounds::run_rounds;
+use crate::watch::{Watch, look_last};
 use crate::worker::{Worker, free_all, seat_all};
 use sg_actor::{DestActor, SourceActor};
 use sg_core::Core;
 use sg_device::{Disk, Inlet, Outlet};
 use sg_engine::Served;
 use sg_hub::{Hub, Seat};
+use sg_outside::Machine;
 use sg_route::Router;
 use std::alloc::{AllocError, Global};
 use std::sync::Wait;
@@ -60,10 +62,12 @@ fn threads<T: Threads>(rt: &T, sources: usize, dests: usize) -> usize {
 // The run, once there is memory for it.
 fn serve_at<
     T: Threads + Wait + Eprint + Sync,
-    R: Router + Send,
+    R: Router + Send + Drop,
     I: Inlet + Send,
     O: Outlet + Send,
     D: Disk + Send,
+    W: Machine,
+    V: Watch<W>,
 >(
     rt: &T,
     alloc: Global,
@@ -74,6 +78,8 @@ fn serve_at<
     sources_room: CrewRoom<SourceActor<R, I>, D>,
     dests_room: CrewRoom<DestActor<O>, D>,
     rounds: u64,
+    watch: &mut V,
+    world: &mut W,
 ) -> Served<R, I, O, D>
     requires first { first ≡ first_desk hub }
     requires turns { (0 < rounds) × (196608 * rounds < hub.turns) }
@@ -89,6 +95,7 @@ fn serve_at<
         result.sources.items }
     ensures dests { AreDests O.state (setup_of result.core) result.dests.items }
     ensures setup { setup_of result.core ≡ setup_of hub.made }
+    ensures world { W.state world.new ≡ W.state world.old }
 {
     let mut first = first;
     let CrewRoom {
@@ -99,8 +106,8 @@ fn serve_at<
         workers: senders,
         actors: dests_back,
     } = dests_room;
-    let mut readers = seat_all(&hub, &mut first, sources, readers);
-    let mut senders = seat_all(&hub, &mut first, dests, senders);
+    let mut readers = seat_all(alloc, &hub, &mut first, sources, readers);
+    let mut senders = seat_all(alloc, &hub, &mut first, dests, senders);
     let count = threads(rt, readers.len(), senders.len());
     let ended = run_rounds(
         rt,
@@ -111,7 +118,10 @@ fn serve_at<
         &mut senders,
         rounds,
         count,
+        watch,
+        world,
     );
+    look_last(alloc, &readers, &senders, watch, world);
     let core = hub.close(rt, first);
     Served {
         ended,
@@ -124,10 +134,12 @@ fn serve_at<
 // The run, once there is room for the actors.
 fn serve_in<
     T: Threads + Wait + Eprint + Sync,
-    R: Router + Send,
+    R: Router + Send + Drop,
     I: Inlet + Send,
     O: Outlet + Send,
     D: Disk + Send,
+    W: Machine,
+    V: Watch<W>,
 >(
     rt: &T,
     alloc: Global,
@@ -137,6 +149,8 @@ fn serve_in<
     sources_room: CrewRoom<SourceActor<R, I>, D>,
     dests_room: CrewRoom<DestActor<O>, D>,
     rounds: u64,
+    watch: &mut V,
+    world: &mut W,
 ) -> Served<R, I, O, D>
     requires rounds { (0 < rounds) × (rounds ≤ 2 ^ 36) }
     requires calls { core.calls ≤ 2 ^ 50 }
@@ -152,6 +166,7 @@ fn serve_in<
         result.sources.items }
     ensures dests { AreDests O.state (setup_of result.core) result.dests.items }
     ensures setup { setup_of result.core ≡ setup_of core }
+    ensures world { W.state world.new ≡ W.state world.old }
 {
     match Hub::new(alloc, core) {
         Ok((hub, first)) => serve_at(
@@ -164,6 +179,8 @@ fn serve_in<
             sources_room,
             dests_room,
             rounds,
+            watch,
+            world,
         ),
         Err((core, _)) => {
             leave(sources_room);
@@ -181,13 +198,15 @@ fn serve_in<
 ///
 /// There is one source for each inlet of the core, and one destination for each of its destinations, in
 /// the order of their numbers. Where there is no memory for the threads' places, the turns are taken on this
-/// thread, one after the other.
+/// thread, one after the other, and the watch doesn't look. Else it looks before a phase where it is due, and once behind the last one.
 pub fn serve<
     T: Threads + Wait + Eprint + Sync,
-    R: Router + Send,
+    R: Router + Send + Drop,
     I: Inlet + Send,
     O: Outlet + Send,
     D: Disk + Send,
+    W: Machine,
+    V: Watch<W>,
 >(
     rt: &T,
     alloc: Global,
@@ -195,6 +214,8 @@ pub fn serve<
     sources: Vec<SourceActor<R, I>>,
     dests: Vec<DestActor<O>>,
     rounds: u64,
+    watch: &mut V,
+    world: &mut W,
 ) -> Served<R, I, O, D>
     requires some { 0 < rounds }
     requires rounds { rounds ≤ 2 ^ 36 }
@@ -209,10 +230,8 @@ pub fn serve<
         result.sources.items }
     ensures dests { AreDests O.state (setup_of result.core) result.dests.items }
     ensures setup { setup_of result.core ≡ setup_of core }
+    ensures world { W.state world.new ≡ W.state world.old }
 {
-    if sources.len() + dests.len() < 2 {
-        return sg_engine::serve(rt, alloc, core, sources, dests, rounds);
-    }
     let Ok(sources_room) = make_room(alloc, sources.len()) else {
         return sg_engine::serve(rt, alloc, core, sources, dests, rounds);
     };
@@ -226,6 +245,8 @@ pub fn serve<
             sources_room,
             dests_room,
             rounds,
+            watch,
+            world,
         ),
         Err(_) => {
             leave(sources_room);

@@ -3,9 +3,11 @@ ghost use Rattle.std.specs.Prelude.{◌≡◌, ◌≤◌, ◌<◌, [], length, v
 ghost use Rattle.sg_booth.specs.Desks.{IsDeskOf};
 ghost use Rattle.sg_crew.specs.Workers.{actors_of};
 
+use crate::passed::SeatCounts;
 use sg_actor::Turned;
 use sg_device::Disk;
 use sg_hub::{Hub, Seat};
+use std::alloc::Global;
 use std::collections::VecDeque;
 
 /// How many turns a worker takes in a phase at most.
@@ -13,7 +15,7 @@ pub(crate) const TURNS: u64 = 256;
 
 /// An actor, its seat, and what its last turn came to: None where it found no memory, or there was none;
 /// and how many records a source brought in then. How many turns of the phase it has taken, and how many of them
-/// did something or were idle.
+/// did something or were idle; and what has passed the seat so far.
 pub(crate) struct Worker<A, D: Disk> {
     pub(crate) actor: A,
     pub(crate) seat: Seat<D>,
@@ -21,10 +23,12 @@ pub(crate) struct Worker<A, D: Disk> {
     pub(crate) records: usize,
     pub(crate) turns: u64,
     pub(crate) busy: u64,
+    pub(crate) passed: SeatCounts,
 }
 
 /// Each actor gets a seat, which has no turns yet.
 pub(crate) fn seat_all<A, D: Disk>(
+    alloc: Global,
     hub: &Hub<D>,
     first: &mut Seat<D>,
     actors: Vec<A>,
@@ -48,6 +52,7 @@ pub(crate) fn seat_all<A, D: Disk>(
             records: 0,
             turns: 0,
             busy: 0,
+            passed: SeatCounts::new(alloc),
         });
     }
     rest.destroy_empty();
@@ -70,6 +75,7 @@ pub(crate) fn free_all<A, D: Disk>(workers: Vec<Worker<A, D>>, room: Vec<A>) -> 
             records: _,
             turns: _,
             busy: _,
+            passed: _,
         } = worker;
         actors.push_reserved(actor);
     }

@@ -14,16 +14,22 @@ use Rattle.sg_daemon.specs.Tracing.{TracesCommand}
 use Rattle.sg_daemon.specs.declared.status.Status.{Status}
 use Rattle.sg_daemon.specs.declared.status.Status.TheVariants.{Ended, Usage}
 
-abbrev pub AnswersCommand : {I O : Type 0} → (I → InletState) → (O → OutletState) → WorldState → WorldState
+abbrev pub AnswersCommand : {I O : Type 0} → (I → InletState) → (O → OutletState) → WorldState
+    → WorldState
     → Option Asked → Status → Type 0
 AnswersCommand feed drain old new (Some (check file)) status = ChecksFile old new file status
-AnswersCommand feed drain old new (Some (trace file source input)) status = TracesCommand old new file
+AnswersCommand feed drain old new (Some (trace file source input)) status =
+    TracesCommand old new file
     source input status
-AnswersCommand feed drain old new (Some (run file once rounds)) status = RunsCommand feed drain old new
+AnswersCommand feed drain old new (Some (run file once rounds)) status =
+    RunsCommand feed drain old new
     file once rounds status
 AnswersCommand feed drain old new (Some (spool file)) status = SpoolsFile old new file status
-AnswersCommand feed drain old new (Some (drill records)) status = DrillsCommand old new records status
-AnswersCommand feed drain old new (Some help) status = ConcludesCommand old new (Ended Clean) usage_text status
-AnswersCommand feed drain old new (Some version) status = ConcludesCommand old new (Ended Clean) version_text
+AnswersCommand feed drain old new (Some (drill records)) status =
+    DrillsCommand old new records status
+AnswersCommand feed drain old new (Some help) status =
+    ConcludesCommand old new (Ended Clean) usage_text status
+AnswersCommand feed drain old new (Some version) status =
+    ConcludesCommand old new (Ended Clean) version_text
     status
 AnswersCommand feed drain old new None status = ConcludesCommand old new Usage usage_text status

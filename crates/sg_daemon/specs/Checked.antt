@@ -14,8 +14,13 @@ ok_line file = file ++ codes ": ok\n"
 -- the state but for what was said and the counts of faults of saying, of reading and of patterns refused as too large, which don't
 -- fall, and the name of the file that couldn't be read last
 pub record OnlyChecks (old new : WorldState) : Type 0 where
-  pub state : new ≡ record old
-      { read_faults = new.read_faults; unread = new.unread; build_faults = new.build_faults; say_faults = new.say_faults; said = new.said }
+  pub state : new ≡ record old {
+    read_faults = new.read_faults;
+    unread = new.unread;
+    build_faults = new.build_faults;
+    say_faults = new.say_faults;
+    said = new.said;
+  }
   pub read : old.read_faults ≤ new.read_faults
   pub build : old.build_faults ≤ new.build_faults
   pub say : old.say_faults ≤ new.say_faults

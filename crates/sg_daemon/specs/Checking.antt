@@ -29,12 +29,14 @@ IsComplete StatusNoMemory = Unit {0}
 IsComplete status = ⊥
 
 -- FILE is a configuration, which was said; or it was said what is wrong with it. Where no trouble comes and memory is there, a configuration is found to be one.
-pub record ChecksBy (old checked new : WorldState) (file : List ℕ) (result : Result Unit Unchecked) (status : Status) : Type 0 where
+pub record ChecksBy (old checked new : WorldState) (file : List ℕ) (result : Result Unit Unchecked)
+    (status : Status) : Type 0 where
   pub checks : Checks old checked file result
   pub only : OnlyChecks old checked
   pub ends : EndsCheck checked new result status
   pub complete : (files : Files) (config : Config) → old.files ≡ Some files
-      → Configures old file config → CanBeCompiled config → ChecksUntroubled old new → IsComplete status
+      → Configures old file config → CanBeCompiled config → ChecksUntroubled old new
+      → IsComplete status
 
 abbrev pub ChecksFile : WorldState → WorldState → List ℕ → Status → Type 0
 ChecksFile old new file status = (checked : WorldState)

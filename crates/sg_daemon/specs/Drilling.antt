@@ -10,7 +10,8 @@ use Rattle.sg_daemon.specs.declared.status.Status.TheVariants.{Ended, NoMemory}
 
 -- the status of what the drill came to, and what is said of that
 abbrev pub EndsDrill : WorldState → WorldState → Result Outcome AllocError → Status → Type 0
-EndsDrill old new (Ok outcome) status = ConcludesCommand old new (Ended outcome.end) outcome.text.items
+EndsDrill old new (Ok outcome) status =
+    ConcludesCommand old new (Ended outcome.end) outcome.text.items
     status
 EndsDrill old new (Err e) status = (new ≡ old) × (status ≡ NoMemory)
 

@@ -13,7 +13,8 @@ use Rattle.sg_daemon.specs.declared.status.Status.TheVariants.{BadConfig, ReadFa
 abbrev pub TellsUnloaded : WorldState → WorldState → Unloaded → Status → Type 0
 TellsUnloaded loaded new (Bad fault names) status =
     (said : WorldState) × (
-    ConcludesCommand loaded said (BadConfig fault) (fault_text_of fault names) status × OnlyReads said new)
+    ConcludesCommand loaded said (BadConfig fault) (fault_text_of fault names) status
+    × OnlyReads said new)
 TellsUnloaded loaded new (Unread name) status =
     (said : WorldState) × (
     ConcludesCommand loaded said ReadFault (unread_text_of name) status × OnlyReads said new)

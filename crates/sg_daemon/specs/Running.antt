@@ -13,7 +13,8 @@ use Rattle.sg_daemon.specs.declared.status.Status.TheVariants.{Ended}
 
 -- the status of what the run came to, and what is said of that
 abbrev pub EndsRun : WorldState → WorldState → Result Outcome Unloaded → Status → Type 0
-EndsRun ran new (Ok outcome) status = ConcludesCommand ran new (Ended outcome.end) outcome.text.items
+EndsRun ran new (Ok outcome) status =
+    ConcludesCommand ran new (Ended outcome.end) outcome.text.items
     status
 EndsRun ran new (Err unloaded) status = TellsUnloaded ran new unloaded status
 

@@ -17,7 +17,8 @@ abbrev pub unread_text_of : List ℕ → List ℕ
 unread_text_of name = codes "cannot read " ++ (name ++ codes "\n")
 
 -- This text was said, which gives this status; or it couldn't be said, or memory ran out.
-pub record ConcludesCommand (old new : WorldState) (status : Status) (text : List ℕ) (result : Status) : Type 0 where
+pub record ConcludesCommand (old new : WorldState) (status : Status) (text : List ℕ)
+    (result : Status) : Type 0 where
   pub says : OnlySays old new
   pub said : ((result ≡ status) × SaidText old new text)
       ⊎ (((result ≡ SayFault) × Rose old.say_faults new.say_faults) ⊎ (result ≡ NoMemory))

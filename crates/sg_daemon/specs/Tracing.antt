@@ -39,7 +39,8 @@ IsComplete status = ⊥
 
 -- INPUT was traced as SOURCE's first inlet would take it, through the log paths of FILE, or it was said what is wrong with that. Where no trouble comes and memory is
 -- there, a configuration that has the source traces INPUT to its end.
-pub record TracesToStatus (old shown new : WorldState) (file source input : List ℕ) (result : Result Unit Unshown) (status : Status) : Type 0 where
+pub record TracesToStatus (old shown new : WorldState) (file source input : List ℕ)
+    (result : Result Unit Unshown) (status : Status) : Type 0 where
   pub traces : TracesFile old shown file source input result
   pub ends : EndsTrace shown new result status
   pub complete : (files : Files) (config : Config) (i : ℕ) → old.files ≡ Some files
@@ -49,4 +50,5 @@ pub record TracesToStatus (old shown new : WorldState) (file source input : List
 
 abbrev pub TracesCommand : WorldState → WorldState → List ℕ → List ℕ → List ℕ → Status → Type 0
 TracesCommand old new file source input status = (shown : WorldState)
-    × ((result : Result Unit Unshown) × TracesToStatus old shown new file source input result status)
+    × ((result : Result Unit Unshown)
+    × TracesToStatus old shown new file source input result status)

@@ -100,7 +100,8 @@ fn tell_bad<W: World>(
 }
 
 fn say_unread<W: World>(alloc: Global, name: &Name, world: &mut W) -> Status
-    ensures { ConcludesCommand (W.state world.old) (W.state world.new) ReadFault (unread_text_of name.now)
+    ensures { ConcludesCommand (W.state world.old) (W.state world.new) ReadFault
+        (unread_text_of name.now)
         result }
 {
     match unread_text(alloc, name) {
@@ -146,7 +147,8 @@ pub fn tell_usage<W: World>(alloc: Global, status: Status, world: &mut W) -> Sta
 
 /// Says which version the program is.
 pub fn tell_version<W: World>(alloc: Global, world: &mut W) -> Status
-    ensures { ConcludesCommand (W.state world.old) (W.state world.new) (Ended Clean) version_text result }
+    ensures { ConcludesCommand (W.state world.old) (W.state world.new) (Ended Clean) version_text
+        result }
 {
     conclude(alloc, Status::Ended(End::Clean), VERSION, world)
 }

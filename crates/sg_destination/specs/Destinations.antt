@@ -33,7 +33,8 @@ host_checks = (codes "port", Within ports) ∷ []
 
 -- a port must be given
 abbrev pub host_faults : Call → List Placed
-host_faults call = missing_unless (last_option (codes "port" ∷ []) (options_of call)) call ++ bad_values host_checks (options_of call)
+host_faults call = missing_unless (last_option (codes "port" ∷ []) (options_of call)) call
+    ++ bad_values host_checks (options_of call)
 
 abbrev pub further_faults : DriverKind → Call → List Placed
 further_faults File call = bad_values file_checks (options_of call)

@@ -20,10 +20,12 @@ use Rattle.sg_destination.specs.Buffers.{port_of, buffer_of}
 use Rattle.sg_destination.specs.ByPath.{is_by_path, path_parts, with_path}
 
 abbrev pub reopen_of : Defaults → Call → ℕ
-reopen_of defaults call = number_or (last_value (codes "time-reopen" ∷ []) (options_of call)) reopen_time defaults.reopen
+reopen_of defaults call = number_or (last_value (codes "time-reopen" ∷ []) (options_of call))
+    reopen_time defaults.reopen
 
 abbrev pub reap_of : Defaults → Call → ℕ
-reap_of defaults call = number_or (last_value (codes "time-reap" ∷ []) (options_of call)) reap_time defaults.reap
+reap_of defaults call = number_or (last_value (codes "time-reap" ∷ []) (options_of call)) reap_time
+    defaults.reap
 
 abbrev pub fsync_of : Call → Bool
 fsync_of call = truth_or (last_value (codes "fsync" ∷ []) (options_of call)) false
@@ -32,7 +34,8 @@ abbrev pub mode_of : Defaults → Call → ℕ
 mode_of defaults call = mode_or (last_value (codes "perm" ∷ []) (options_of call)) defaults.mode
 
 abbrev pub makes_folders : Defaults → Call → Bool
-makes_folders defaults call = truth_or (last_value (codes "create-dirs" ∷ []) (options_of call)) defaults.folders
+makes_folders defaults call = truth_or (last_value (codes "create-dirs" ∷ []) (options_of call))
+    defaults.folders
 
 -- the mode of the folders on the way to a file, where missing ones are made too
 abbrev pub folders_of : Defaults → Call → Option ℕ
@@ -57,8 +60,10 @@ spec_by Syslog defaults call = host_of defaults call
 
 -- how macros are shown
 pub record HasEnv (defaults : Defaults) (call : Call) (env : Env) : Type 0 where
-  pub zone : env.zone ≡ zone_or_none (last_value (codes "time-zone" ∷ []) (options_of call)) defaults.zone
-  pub digits : env.digits ≡ number_or (last_value (codes "frac-digits" ∷ []) (options_of call)) fraction_digits defaults.digits
+  pub zone : env.zone ≡ zone_or_none (last_value (codes "time-zone" ∷ []) (options_of call))
+      defaults.zone
+  pub digits : env.digits ≡ number_or (last_value (codes "frac-digits" ∷ []) (options_of call))
+      fraction_digits defaults.digits
   pub iso : env.iso ≡ iso_or (last_value (codes "ts-format" ∷ []) (options_of call)) defaults.iso
   pub old : env.old ≡ None
 
@@ -70,13 +75,16 @@ pub record HasFrames (texts : Texts) (call : Call) (shape : Shape) : Type 0 wher
   pub shape_is : shape ≡ with_path (path_parts call) text
 
 -- what is opened, and what is sent
-pub record IsOutletPlan (defaults : Defaults) (texts : Texts) (call : Call) (plan : OutletPlan) : Type 0 where
+pub record IsOutletPlan (defaults : Defaults) (texts : Texts) (call : Call)
+    (plan : OutletPlan) : Type 0 where
   pub spec : plan.spec ≡ spec_by (driver_kind call) defaults call
   pub shape : HasFrames texts call plan.shape
   pub env : HasEnv defaults call plan.env
 
 -- what the options of a driver make, with these defaults and templates
-pub record IsDestination (defaults : Defaults) (texts : Texts) (call : Call) (dest : DestinationDriver) : Type 0 where
+pub record IsDestination (defaults : Defaults) (texts : Texts) (call : Call)
+    (dest : DestinationDriver) : Type 0 where
   pub plan : IsOutletPlan defaults texts call dest.plan
-  pub fifo : dest.fifo ≡ number_or (last_value (codes "log-fifo-size" ∷ []) (options_of call)) fifo_size defaults.fifo
+  pub fifo : dest.fifo ≡ number_or (last_value (codes "log-fifo-size" ∷ []) (options_of call))
+      fifo_size defaults.fifo
   pub buffer : dest.buffer ≡ buffer_of call

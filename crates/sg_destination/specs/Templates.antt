@@ -31,7 +31,9 @@ at_spot (Some kind) spot = (record { kind = kind; line = spot_line spot }) ∷ [
 
 -- a string that names no template is the text itself; another word that names none is unknown
 abbrev pub own_faults : Spot → List Placed
-own_faults spot = if is_string spot.token then at_spot (template_verdict (parts_of spot.token.text)) spot else at_spot (Some UnknownName) spot
+own_faults spot = if is_string spot.token
+    then at_spot (template_verdict (parts_of spot.token.text)) spot
+    else at_spot (Some UnknownName) spot
 
 abbrev pub unless_named : Option (List ℕ) → Spot → List Placed
 unless_named None spot = own_faults spot
@@ -42,7 +44,8 @@ reference_faults texts None = []
 reference_faults texts (Some spot) = unless_named (texts spot.token.text) spot
 
 abbrev pub template_option_faults : Texts → Call → List Placed
-template_option_faults texts call = if is_called template_words call then reference_faults texts (value_of call) else []
+template_option_faults texts call =
+    if is_called template_words call then reference_faults texts (value_of call) else []
 
 -- what is wrong with the values of `template` among options; the text of a named one is its statement's
 abbrev pub template_faults : Texts → List Call → List Placed

@@ -4,3 +4,4 @@ pub mod DiskCalls
 pub mod FrameLemmas
 pub mod FrameParts
 pub mod Inlets
+pub mod PathLemmas

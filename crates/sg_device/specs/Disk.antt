@@ -50,9 +50,11 @@ bytes_after first (Lost left ∷ earlier) = left
 -- none is added by it.
 abbrev pub IsLeftByCrash : List ℕ → List DiskEvent → List ℕ → Type 0
 IsLeftByCrash first [] bytes = bytes ≡ first
-IsLeftByCrash first (Wrote at written ∷ earlier) bytes = (before : List ℕ) × IsLeftByCrash first earlier before
+IsLeftByCrash first (Wrote at written ∷ earlier) bytes =
+    (before : List ℕ) × IsLeftByCrash first earlier before
     × Torn at (length written) before bytes
-IsLeftByCrash first (Tore at n written ∷ earlier) bytes = (before : List ℕ) × IsLeftByCrash first earlier before
+IsLeftByCrash first (Tore at n written ∷ earlier) bytes =
+    (before : List ℕ) × IsLeftByCrash first earlier before
     × Torn at n before bytes
 IsLeftByCrash first (Synced ∷ earlier) bytes = bytes ≡ bytes_after first earlier
 IsLeftByCrash first (Lost left ∷ earlier) bytes = IsLeftByCrash first earlier bytes ⊎ (bytes ≡ left)
@@ -60,7 +62,8 @@ IsLeftByCrash first (Lost left ∷ earlier) bytes = IsLeftByCrash first earlier 
 -- the same at a moment: after so many of the events
 abbrev pub IsLeftAt : Option DiskLog → ℕ → List ℕ → Type 0
 IsLeftAt None moment bytes = ⊥
-IsLeftAt (Some log) moment bytes = IsLeftByCrash log.first (drop (length log.events - moment) log.events)
+IsLeftAt (Some log) moment bytes =
+    IsLeftByCrash log.first (drop (length log.events - moment) log.events)
     bytes
 
 -- the number of events, 0 where they aren't told

@@ -49,7 +49,8 @@ under_path path texts = map (λ text. record { path = path; text = text }) texts
 -- the paths but for this one
 abbrev pub without_path : List ℕ → List (List ℕ) → List (List ℕ)
 without_path path [] = []
-without_path path (open_path ∷ paths) = if bytes_eq open_path path then paths else open_path ∷ without_path path paths
+without_path path (open_path ∷ paths) =
+    if bytes_eq open_path path then paths else open_path ∷ without_path path paths
 
 -- the open paths and the texts stay
 pub record KeepsPaths (old new : PathsState) : Type 0 where
@@ -62,10 +63,12 @@ PathOpens old new path (Err refusal) = KeepsPaths old new
     × Refuses (counts_of old) (counts_of new) refusal
 
 -- A send is counted and answered as that of an outlet, and what it took stands under the path. One that took all counts no fault.
-pub record SendsUnder (path : List ℕ) (texts : List (List ℕ)) (old new : PathsState) (result : Result Unit SendRefusal) : Type 0 where
+pub record SendsUnder (path : List ℕ) (texts : List (List ℕ)) (old new : PathsState)
+    (result : Result Unit SendRefusal) : Type 0 where
   pub sends : Sends (counts_of old) (counts_of new) texts result
   pub taken : new.taken
-      ≡ option_map (λ before. before ++ under_path path (take (new.count - old.count) texts)) old.taken
+      ≡ option_map (λ before. before
+      ++ under_path path (take (new.count - old.count) texts)) old.taken
   pub well : OnOk result (new.faults ≡ old.faults)
 
 abbrev pub PathSends : PathsState → PathsState → List ℕ → List (List ℕ) → Result Unit SendRefusal

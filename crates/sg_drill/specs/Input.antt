@@ -5,7 +5,10 @@ use Rattle.std.specs.Fmt.{decimal}
 -- the line of the record of that number
 abbrev pub record_line : ℕ → List ℕ
 record_line k =
-    codes "<" ++ (decimal (7 * k % 192) ++ (codes ">Feb  5 17:32:18 host" ++ (decimal (k % 8) ++ (codes " prog" ++ (decimal (k % 5) ++ (codes ": record " ++ (decimal k ++ codes "\n")))))))
+    codes "<" ++ (decimal (7 * k % 192)
+    ++ (codes ">Feb  5 17:32:18 host"
+    ++ (decimal (k % 8) ++ (codes " prog"
+    ++ (decimal (k % 5) ++ (codes ": record " ++ (decimal k ++ codes "\n")))))))
 
 -- those of the first records
 abbrev pub drill_text : ℕ → List ℕ

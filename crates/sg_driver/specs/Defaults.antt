@@ -53,7 +53,8 @@ iso_or value default = one_of_or value (codes "iso" ∷ codes "rfc3339" ∷ []) 
 abbrev pub with_options : List Call → Defaults → Defaults
 with_options calls before = record {
   fifo = number_or (last_value (codes "log-fifo-size" ∷ []) calls) fifo_size before.fifo;
-  message_size = number_or (last_value (codes "log-msg-size" ∷ []) calls) message_size before.message_size;
+  message_size = number_or (last_value (codes "log-msg-size" ∷ []) calls) message_size
+      before.message_size;
   keep_hostname = truth_or (last_value (codes "keep-hostname" ∷ []) calls) before.keep_hostname;
   keep_timestamp = truth_or (last_value (codes "keep-timestamp" ∷ []) calls) before.keep_timestamp;
   received_zone = zone_or (last_value (codes "recv-time-zone" ∷ []) calls) before.received_zone;

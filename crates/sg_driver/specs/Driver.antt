@@ -47,4 +47,5 @@ bad_values_at (Some spot) = bad_value spot ∷ []
 -- a store's name that is too long stands at the path or the host
 abbrev pub long_names : Call → Option (List ℕ) → List Placed
 long_names call None = []
-long_names call (Some store) = if nat_lt store_name_limit (length store) then bad_values_at (value_of call) else []
+long_names call (Some store) =
+    if nat_lt store_name_limit (length store) then bad_values_at (value_of call) else []

@@ -1,6 +1,6 @@
 -- Paths in a list, and the list without one of them.
 use Rattle.std.proofs.Common.{◌≡◌, ◌≢◌, ◌<◌, ℕ, zero, suc, ◌+◌, get_or, List, [], ◌∷◌, ◌++◌, length, take, drop, refl, ap, ◌∙◌, sym, arith, length-append, length-take, length-drop, get_or-take}
-use Rattle.std.specs.Prelude.{Bool, true, false, ◌==◌, if◌then◌else◌, bytes_eq}
+use Rattle.std.specs.Prelude.{true, false, ◌==◌, bytes_eq}
 use Rattle.std.specs.List.{Contains}
 use mathlib.Core.Logic.{◌⊎◌, inl, inr}
 use Rattle.std.proofs.lemmas.Bool.Decides.{eqb_tells}
@@ -9,26 +9,7 @@ use Rattle.std.proofs.lemmas.List.{get_or-drop, get_or_default}
 use Rattle.sg_dynfile.specs.Tracks.{IsPlaceOf}
 use Rattle.std.proofs.lemmas.List.Elements.{Contains-append_cases}
 use Rattle.sg_device.specs.Paths.{without_path}
-
-if_then : {A : Type 0} (b : Bool) (x y : A) → b ≡ true → (if b then x else y) ≡ x
-if_then true x y is = refl
-if_then false x y is = let wrong : false ≡ true = is in cc
-
-if_else : {A : Type 0} (b : Bool) (x y : A) → b ≡ false → (if b then x else y) ≡ y
-if_else false x y is = refl
-if_else true x y is = let wrong : true ≡ false = is in cc
-
--- another path stays
-pub without-other : (path : List ℕ) (names : List (List ℕ)) (i : ℕ) → i < length names → bytes_eq (get_or names i []) path ≡ false → take i names ++ without_path path (drop i names) ≡ take (i + 1) names ++ without_path path (drop (i + 1) names)
-without-other path [] i lt is = grind (arith, lt)
-without-other path (name ∷ names) zero lt is = if_else (bytes_eq name path) names (name ∷ without_path path names) is
-without-other path (name ∷ names) (suc i) lt is = let next : suc i + 1 ≡ suc (i + 1) = omega arith in rw next (ap (λ (l : List (List ℕ)). name ∷ l) (without-other path names i (omega (arith, lt)) is))
-
--- this one goes
-pub without-here : (path : List ℕ) (names : List (List ℕ)) (i : ℕ) → i < length names → bytes_eq (get_or names i []) path ≡ true → without_path path (drop i names) ≡ drop (i + 1) names
-without-here path [] i lt is = grind (arith, lt)
-without-here path (name ∷ names) zero lt is = if_then (bytes_eq name path) names (name ∷ without_path path names) is
-without-here path (name ∷ names) (suc i) lt is = let next : suc i + 1 ≡ suc (i + 1) = omega arith in rw next (without-here path names i (omega (arith, lt)) is)
+use Rattle.sg_device.proofs.PathLemmas.{without-here}
 
 contains-take : (i : ℕ) (xs : List (List ℕ)) (x : List ℕ) → Contains (take i xs) x → Contains xs x
 contains-take i xs x (k, lt, is) =

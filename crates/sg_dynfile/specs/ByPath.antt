@@ -13,7 +13,8 @@ abbrev pub frame_by_path : List TemplatePart → List TemplatePart → Env → C
 frame_by_path path text env message = frame_of (ByPath path text) message env
 
 -- of these messages, the texts of those whose path is this one
-abbrev pub texts_with_path : List TemplatePart → List TemplatePart → Env → List ℕ → List Content → List (List ℕ)
+abbrev pub texts_with_path : List TemplatePart → List TemplatePart → Env → List ℕ → List Content
+    → List (List ℕ)
 texts_with_path path text env name [] = []
 texts_with_path path text env name (m ∷ ms) = if bytes_eq (path_of path m env) name
     then render_of text m env ∷ texts_with_path path text env name ms

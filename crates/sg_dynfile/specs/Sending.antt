@@ -12,7 +12,8 @@ pub record TakesAll (frames : List (List ℕ)) (old new : OutletState) : Type 0 
   pub failing : new.failing ≡ failing_after (length frames) old.failing
 
 -- Of these frames the first were taken, and the texts of the others wait for the file of one path.
-pub record IsUnderWay (old now : PathsState) (frames : List (List ℕ)) (path : List ℕ) (texts : List (List ℕ)) : Type 0 where
+pub record IsUnderWay (old now : PathsState) (frames : List (List ℕ)) (path : List ℕ)
+    (texts : List (List ℕ)) : Type 0 where
   pub done : List (List ℕ)
   pub waiting : List (List ℕ)
   pub all : frames ≡ done ++ waiting
@@ -22,7 +23,8 @@ pub record IsUnderWay (old now : PathsState) (frames : List (List ℕ)) (path : 
   pub parted : AreParted old.taken → AreParted now.taken
 
 -- what became of a send of these frames
-pub record SendsFrames (old new : PathsState) (frames : List (List ℕ)) (result : Result Unit SendRefusal) : Type 0 where
+pub record SendsFrames (old new : PathsState) (frames : List (List ℕ))
+    (result : Result Unit SendRefusal) : Type 0 where
   pub sends : Sends (outlet_over old) (outlet_over new) frames result
   pub parted : AreParted old.taken → AreParted new.taken
 

@@ -8,14 +8,14 @@ use Rattle.sg_dynfile.specs.Tracks.{Tracks}
 use Rattle.sg_dynfile.specs.declared.open_paths.OpenPaths.{OpenPaths}
 
 -- its opener and the open paths
-pub record View (P : Type 0) : Type 0 where
+pub record DynfileView (P : Type 0) : Type 0 where
   pub opener : P
   pub open_paths : OpenPaths
 
-abbrev pub outlet_of : {P : Type 0} → (P → PathsState) → View P → OutletState
+abbrev pub outlet_of : {P : Type 0} → (P → PathsState) → DynfileView P → OutletState
 outlet_of state view = outlet_over (state view.opener)
 
-pub record IsSound {P : Type 0} (state : P → PathsState) (view : View P) : Type 0 where
+pub record IsSound {P : Type 0} (state : P → PathsState) (view : DynfileView P) : Type 0 where
   pub tracks : Tracks (state view.opener) view.open_paths
   pub parted : AreParted (state view.opener).taken
 

@@ -25,9 +25,9 @@ pub struct DynFile<P: Opener> {
 }
 
 impl<P: Opener> Model for DynFile<P> {
-    ghost use Rattle.sg_dynfile.specs.View.{View, IsSound};
+    ghost use Rattle.sg_dynfile.specs.View.{DynfileView, IsSound};
 
-    ghost Value = { View P };
+    ghost Value = { DynfileView P };
 
     ghost view = { λ file. record { opener = file.opener; open_paths = file.open_paths } };
 

@@ -20,24 +20,33 @@ StaysWithin held _ _ _ _ (moves context fresh tokens state world again rest next
     HoldsWithin held state × StaysWithin held _ _ _ _ r
 StaysWithin held _ _ _ _ (faults context fresh tokens state world kind line e) = HoldsWithin held
     state
-StaysWithin held _ _ _ _ (includes context fresh tokens state world line name rest next read bytes found middle later outcome e reads taken r k) =
+StaysWithin held _ _ _ _ (includes context fresh tokens state world line name rest next read bytes
+    found middle later outcome e reads taken r k) =
     HoldsWithin held state × StaysWithin held _ _ _ _ r × StaysWithin held _ _ _ _ k
-StaysWithin held _ _ _ _ (included_stops context fresh tokens state world line name rest next read bytes found refusal names later e reads taken r) =
+StaysWithin held _ _ _ _ (included_stops context fresh tokens state world line name rest next read
+    bytes found refusal names later e reads taken r) =
     HoldsWithin held state × StaysWithin held _ _ _ _ r
-StaysWithin held _ _ _ _ (file_faults context fresh tokens state world line name rest next read bytes fault e reads taken) =
+StaysWithin held _ _ _ _ (file_faults context fresh tokens state world line name rest next read
+    bytes fault e reads taken) =
     HoldsWithin held state
-StaysWithin held _ _ _ _ (file_too_long context fresh tokens state world line name rest next read e reads) =
+StaysWithin held _ _ _ _ (file_too_long context fresh tokens state world line name rest next read e
+    reads) =
     HoldsWithin held state
-StaysWithin held _ _ _ _ (file_unread context fresh tokens state world line name rest next read e reads) =
+StaysWithin held _ _ _ _ (file_unread context fresh tokens state world line name rest next read e
+    reads) =
     HoldsWithin held state
-StaysWithin held _ _ _ _ (uses context fresh tokens state world block given rest next middle later outcome e r k) =
+StaysWithin held _ _ _ _ (uses context fresh tokens state world block given rest next middle later
+    outcome e r k) =
     HoldsWithin held state × StaysWithin held _ _ _ _ r × StaysWithin held _ _ _ _ k
-StaysWithin held _ _ _ _ (use_stops context fresh tokens state world block given rest next refusal names later e r) =
+StaysWithin held _ _ _ _ (use_stops context fresh tokens state world block given rest next refusal
+    names later e r) =
     HoldsWithin held state × StaysWithin held _ _ _ _ r
-StaysWithin held _ _ _ _ (binds context serial body argument left bound state world whole later outcome r k) =
+StaysWithin held _ _ _ _ (binds context serial body argument left bound state world whole later
+    outcome r k) =
     HoldsWithin held state × StaysWithin (held + length state.out) _ _ _ _ r
     × StaysWithin (held + length whole.out) _ _ _ _ k
-StaysWithin held _ _ _ _ (value_stops context serial body argument left bound state world refusal names later r) =
+StaysWithin held _ _ _ _ (value_stops context serial body argument left bound state world refusal
+    names later r) =
     HoldsWithin held state × StaysWithin (held + length state.out) _ _ _ _ r
 StaysWithin held _ _ _ _ (body_runs context serial body bound state world outcome r) =
     HoldsWithin held state × StaysWithin held _ _ _ _ r

@@ -77,7 +77,8 @@ pub data ExpansionStep : Type 0 where
 -- the running total grows, or the fault stands at the line
 abbrev pub charged : ℕ → FileLine → ExpansionState → (ExpansionState → ExpansionStep)
     → ExpansionStep
-charged size line state later = if nat_le (state.total + size) 1048576 then later (record state { total = state.total + size }) else Faults TooLong line
+charged size line state later = if nat_le (state.total + size) 1048576
+    then later (record state { total = state.total + size }) else Faults TooLong line
 
 -- tokens come out, each of which is counted
 abbrev pub emitted_by : Bool → List Token → List Token → ExpansionState → Result ℕ FileLine
@@ -95,7 +96,8 @@ is_directive word tokens = passes_at tokens 0 is_at && bytes_eq (text_at tokens 
 -- the text of the token at a place, in which names are replaced where it is a string
 abbrev pub text_in : Values → Values → List Token → ℕ → Option (List ℕ)
 text_in scope variables tokens place =
-    if passes_at tokens place is_string then replaced scope variables 0 (text_at tokens place) else Some (text_at tokens place)
+    if passes_at tokens place is_string then replaced scope variables 0 (text_at tokens place)
+    else Some (text_at tokens place)
 
 abbrev pub text_of : Context → ExpansionState → List Token → ℕ → Option (List ℕ)
 text_of context state tokens place = text_in context.scope state.variables tokens place
@@ -121,7 +123,8 @@ variable_tokens tokens state (Some value) = emitted false (drop 1 tokens) value 
 -- a token that is no directive, definition or use
 abbrev pub plain : Context → List Token → ExpansionState → ExpansionStep
 plain context tokens state =
-    if passes_at tokens 0 is_tick then variable_tokens tokens state (reached context.scope state.variables (text_at tokens 0))
+    if passes_at tokens 0 is_tick then variable_tokens tokens state
+    (reached context.scope state.variables (text_at tokens 0))
     else plain_text tokens state (text_of context state tokens 0)
 
 -- whether the block may be used: in a block's body only those may that were defined before it
@@ -144,19 +147,27 @@ abbrev pub use_of : Context → List Token → ExpansionState → Option BlockDe
 use_of context tokens state None given = plain context tokens state
 use_of context tokens state (Some block) None = plain context tokens state
 use_of context tokens state (Some block) (Some given) =
-    if is_in_reach context.limit block then used tokens block given state else plain context tokens state
+    if is_in_reach context.limit block then used tokens block given state
+    else plain context tokens state
 
 -- a word at which a use may stand, or another token
 abbrev pub word_or_use : Context → Bool → List Token → ExpansionState → ExpansionStep
 word_or_use context fresh tokens state =
-    if fresh && passes_at tokens 0 is_word then use_of context tokens state (map.get state.blocks (text_at tokens 0)) (use_form tokens)
+    if fresh && passes_at tokens 0 is_word
+    then use_of context tokens state (map.get state.blocks (text_at tokens 0)) (use_form tokens)
     else plain context tokens state
 
 abbrev pub with_block : Definition → ExpansionState → ExpansionState
 with_block defined state =
     record state {
       serial = min (state.serial + 1) (2 ^ 64 - 1);
-      blocks = map.insert state.blocks defined.name (record { serial = state.serial; parameters = defined.parameters; written = defined.written; body = defined.body });
+      blocks = map.insert state.blocks defined.name
+          (record {
+            serial = state.serial;
+            parameters = defined.parameters;
+            written = defined.written;
+            body = defined.body;
+          });
     }
 
 abbrev pub definition_or_word : Context → Bool → List Token → ExpansionState → Option Definition
@@ -173,20 +184,24 @@ is_version word =
 
 -- `@version : WORD`, `@define WORD NAME`, `@include STR`, `@module WORD` and `@requires WORD`
 abbrev pub begins_version : List Token → Bool
-begins_version tokens = is_directive (codes "version") tokens && (passes_at tokens 1 (is_symbol 58) && passes_at tokens 2 is_word)
+begins_version tokens = is_directive (codes "version") tokens
+    && (passes_at tokens 1 (is_symbol 58) && passes_at tokens 2 is_word)
 
 abbrev pub begins_define : List Token → Bool
-begins_define tokens = is_directive (codes "define") tokens && (passes_at tokens 1 is_word && passes_at tokens 2 is_name)
+begins_define tokens = is_directive (codes "define") tokens
+    && (passes_at tokens 1 is_word && passes_at tokens 2 is_name)
 
 abbrev pub begins_include : List Token → Bool
 begins_include tokens = is_directive (codes "include") tokens && passes_at tokens 1 is_string
 
 abbrev pub begins_ignored : List Token → Bool
-begins_ignored tokens = (is_directive (codes "module") tokens || is_directive (codes "requires") tokens) && passes_at tokens 1 is_word
+begins_ignored tokens = (is_directive (codes "module") tokens
+    || is_directive (codes "requires") tokens) && passes_at tokens 1 is_word
 
 abbrev pub version_read : Bool → List Token → ExpansionState → ExpansionStep
 version_read fresh tokens state =
-    if is_version (text_at tokens 2) || bytes_eq (text_at tokens 2) (codes "current") then Moves fresh (drop 3 tokens) state
+    if is_version (text_at tokens 2) || bytes_eq (text_at tokens 2) (codes "current")
+    then Moves fresh (drop 3 tokens) state
     else Faults Version (line_at tokens 0)
 
 abbrev pub with_variable : List ℕ → List Token → ExpansionState → ExpansionState
@@ -226,12 +241,14 @@ abbrev pub front : Context → Bool → List Token → ExpansionState → Expans
 front context fresh tokens state =
     if length tokens == 0 then Ends
     else (if begins_version tokens then version_read fresh tokens state
-    else (if begins_define tokens then define_read fresh tokens state (text_of context state tokens 2)
+    else (if begins_define tokens then define_read fresh tokens state
+    (text_of context state tokens 2)
     else (if begins_ignored tokens then Moves fresh (drop 2 tokens) state
     else definition_or_word context fresh tokens state (definition tokens))))
 
 abbrev pub step : Context → Bool → List Token → ExpansionState → ExpansionStep
-step context fresh tokens state = if begins_include tokens then include_read context tokens state else front context fresh tokens state
+step context fresh tokens state = if begins_include tokens then include_read context tokens state
+    else front context fresh tokens state
 
 -- what is to be expanded
 pub data ExpansionJob : Type 0 where
@@ -247,8 +264,10 @@ abbrev pub file_context : Context → Context
 file_context context = record { depth = context.depth + 1; scope = map.empty; limit = None }
 
 abbrev pub fault_in : ℕ → List ℕ → LexFault → ConfigFault
-fault_in file text (OpenStringAt place) = record { kind = OpenString; file = file; line = line_in text place }
-fault_in file text (BadByteAt place) = record { kind = BadByte; file = file; line = line_in text place }
+fault_in file text (OpenStringAt place) =
+    record { kind = OpenString; file = file; line = line_in text place }
+fault_in file text (BadByteAt place) =
+    record { kind = BadByte; file = file; line = line_in text place }
 fault_in file text LexNoMemory = record { kind = BadByte; file = file; line = 1 }
 
 -- the tokens of a text, or what is wrong with it
@@ -259,12 +278,16 @@ lexed file text (Err fault) = Err (fault_in file text fault)
 -- the tokens of the next file of this text, which an `@include` at this line asks for, once its bytes are counted
 abbrev pub file_tokens : FileLine → ExpansionState → List ℕ → Result (List Token) ConfigFault
 file_tokens line state text =
-    if nat_le (state.total + (length text + 1)) 1048576 then lexed (length state.names) text (tokens_of (length state.names) text)
+    if nat_le (state.total + (length text + 1)) 1048576
+    then lexed (length state.names) text (tokens_of (length state.names) text)
     else Err (fault_at TooLong line)
 
 -- a file was read, and its bytes were counted: it takes the next number
 abbrev pub with_file : List ℕ → List ℕ → ExpansionState → ExpansionState
-with_file name text state = record state { names = state.names ++ name ∷ []; total = state.total + (length text + 1) }
+with_file name text state = record state {
+  names = state.names ++ name ∷ [];
+  total = state.total + (length text + 1);
+}
 
 -- the state with nothing, or with these tokens, come out
 abbrev pub with_out : List Token → ExpansionState → ExpansionState
@@ -370,7 +393,14 @@ pub data RunsJob : ExpansionJob → ExpansionState → WorldState → ExpansionO
       → RunsJob (Binding context serial body [] bound) state world outcome
 
 abbrev pub first_state : List ℕ → ExpansionState
-first_state name = record { variables = map.empty; blocks = map.empty; serial = 0; total = 0; names = name ∷ []; out = [] }
+first_state name = record {
+  variables = map.empty;
+  blocks = map.empty;
+  serial = 0;
+  total = 0;
+  names = name ∷ [];
+  out = [];
+}
 
 abbrev pub first_context : Context
 first_context = record { depth = 0; scope = map.empty; limit = None }
@@ -382,7 +412,8 @@ first_line tokens = option_map_or (λ token. record { file = token.file; line = 
 -- the main file's tokens behind its version, or what is wrong with them
 abbrev pub behind_version : List Token → Result (List Token) ConfigFault
 behind_version tokens =
-    if begins_version tokens && is_version (text_at tokens 2) then Ok (drop 3 tokens) else Err (fault_at Version (first_line tokens))
+    if begins_version tokens && is_version (text_at tokens 2) then Ok (drop 3 tokens)
+    else Err (fault_at Version (first_line tokens))
 
 abbrev pub versioned : Result (List Token) ConfigFault → Result (List Token) ConfigFault
 versioned (Ok tokens) = behind_version tokens
@@ -391,7 +422,8 @@ versioned (Err fault) = Err fault
 -- the tokens of the main file's text, which has a limit
 abbrev pub main_tokens : List ℕ → Result (List Token) ConfigFault
 main_tokens text =
-    if nat_le (length text) 1048576 then versioned (lexed 0 text (tokens_of 0 text)) else Err (record { kind = TooLong; file = 0; line = 1 })
+    if nat_le (length text) 1048576 then versioned (lexed 0 text (tokens_of 0 text))
+    else Err (record { kind = TooLong; file = 0; line = 1 })
 
 abbrev pub RunsTokens : Result (List Token) ConfigFault → ExpansionState → WorldState
     → ExpansionOutcome → Type 0

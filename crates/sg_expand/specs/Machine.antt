@@ -92,7 +92,8 @@ abbrev pub DoesUse : Context → BlockCall → List Token → ExpansionState →
     → Type 0
 DoesUse context call rest next old new (Ok done) =
     (middle : Expander) × ((state_of middle ≡ next)
-    × ((middle.frames.items ≡ old.frames.items ++ tokens_frame context false rest ∷ []) × CallsBlock call middle new (Ok done)))
+    × ((middle.frames.items ≡ old.frames.items ++ tokens_frame context false rest ∷ [])
+    × CallsBlock call middle new (Ok done)))
 DoesUse context call rest next old new (Err (Fault fault)) = ⊥
 DoesUse context call rest next old new (Err (ReadFault name)) = ⊥
 DoesUse context call rest next old new (Err NoMemory) = Unit {0}
@@ -147,7 +148,8 @@ DoesAsked (Uses block given rest next) context old new result = DoesUse context
     (call_of context block given) rest next old new result
 
 -- what a use asks for is the block's
-pub record IsAskedFor (asked : BlockUse) (size : ℕ) (block : BlockDefinition) (given : List Argument) : Type 0 where
+pub record IsAskedFor (asked : BlockUse) (size : ℕ) (block : BlockDefinition)
+    (given : List Argument) : Type 0 where
   pub size_is : IsSize size asked.size
   pub serial_is : asked.serial ≡ block.serial
   pub body_is : asked.body ≡ block.body
@@ -173,8 +175,10 @@ abbrev pub FindsUse : Context → Bool → List Token → ExpansionState
 FindsUse context fresh tokens state (Ok None) = word_or_use context fresh tokens state
     ≡ plain context tokens state
 FindsUse context fresh tokens state (Ok (Some found)) =
-    (block : BlockDefinition) × ((given : List Argument) × (IsAskedFor found.0 (use_size tokens block) block given
-    × (word_or_use context fresh tokens state ≡ charged (use_size tokens block) (line_at tokens 0) state (Uses block given found.1))))
+    (block : BlockDefinition) × ((given : List Argument)
+    × (IsAskedFor found.0 (use_size tokens block) block given
+    × (word_or_use context fresh tokens state
+    ≡ charged (use_size tokens block) (line_at tokens 0) state (Uses block given found.1))))
 FindsUse context fresh tokens state (Err (Fault fault)) =
     (kind : ConfigKind) × ((word_or_use context fresh tokens state ≡ Faults kind (line_at tokens 0))
     × (fault ≡ fault_at kind (line_at tokens 0)))
@@ -214,8 +218,10 @@ ChecksName names name line (Err NoMemory) = ⊥
 abbrev pub TakesFile : Context → Bool → FileLine → List ℕ → List Token → List ℕ → Expander
     → Expander → Result Unit ExpandStop → Type 0
 TakesFile context fresh line name rest text old new (Ok done) =
-    (found : List Token) × ((file_tokens line (state_of old) text ≡ Ok found) × ((state_of new ≡ with_file name text (state_of old))
-    × (new.frames.items ≡ old.frames.items ++ tokens_frame context fresh rest ∷ tokens_frame (file_context context) true found ∷ [])))
+    (found : List Token) × ((file_tokens line (state_of old) text ≡ Ok found)
+    × ((state_of new ≡ with_file name text (state_of old))
+    × (new.frames.items ≡ old.frames.items ++ tokens_frame context fresh rest
+    ∷ tokens_frame (file_context context) true found ∷ [])))
 TakesFile context fresh line name rest text old new (Err (Fault fault)) =
     (file_tokens line (state_of old) text ≡ Err fault) × (new.names ≡ old.names ++ name ∷ [])
 TakesFile context fresh line name rest text old new (Err (ReadFault other)) = ⊥
@@ -229,7 +235,9 @@ DoesInclude context fresh line name rest next old world new world' (Err (ReadFau
     (other ≡ name) × (ReadsFile world world' name 1048576 (Err Failed) × (new.names ≡ next.names))
 DoesInclude context fresh line name rest next old world new world' result =
     ((bytes : Vec ℕ Global) × (ReadsFile world world' name 1048576 (Ok bytes)
-    × ((middle : Expander) × ((state_of middle ≡ next) × ((middle.frames.items ≡ old.frames.items) × TakesFile context fresh line name rest bytes.items middle new result)))))
+    × ((middle : Expander) × ((state_of middle ≡ next)
+    × ((middle.frames.items ≡ old.frames.items)
+    × TakesFile context fresh line name rest bytes.items middle new result)))))
     ⊎ (ReadsFile world world' name 1048576 (Err FileTooLong)
     × ((result ≡ Err (Fault (fault_at TooLong line))) × (new.names ≡ next.names)))
 

@@ -11,7 +11,8 @@ use Rattle.sg_expand.specs.Faults.{fault_at}
 -- the running total once the tokens are counted, or where the one stands with which it passes the limit
 abbrev pub counted : ℕ → List Token → Result ℕ FileLine
 counted total [] = Ok total
-counted total (token ∷ tokens) = if nat_le (total + token_size token) 1048576 then counted (total + token_size token) tokens else Err (line_of token)
+counted total (token ∷ tokens) = if nat_le (total + token_size token) 1048576
+    then counted (total + token_size token) tokens else Err (line_of token)
 
 abbrev pub Charges : ℕ → FileLine → ℕ → ℕ → Result Unit ExpandStop → Type 0
 Charges size line old new (Ok done) = (new ≡ old + size) × (old + size ≤ 1048576)

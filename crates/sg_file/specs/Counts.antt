@@ -52,7 +52,13 @@ pub record IsAnswered (old new : InletState) (got result : Result Pull InletFaul
   pub faults : PullFaults old new result
 
 abbrev pub outlet_state : OutletCounts → OutletState
-outlet_state counts = record { taken = None; count = counts.taken; faults = counts.faults; failing = counts.failing; laters = counts.laters }
+outlet_state counts = record {
+  taken = None;
+  count = counts.taken;
+  faults = counts.faults;
+  failing = counts.failing;
+  laters = counts.laters;
+}
 
 -- an outlet that took nothing yet
 abbrev pub new_outlet : OutletState

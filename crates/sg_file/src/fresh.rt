@@ -17,7 +17,7 @@ const TRIES: u32 = 8;
 
 /// The file of a store, and its name where it was made.
 #[derive(Drop)]
-pub(crate) struct Opened {
+pub(crate) struct OpenedFile {
     pub(crate) file: File,
     pub(crate) made: Option<String>,
 }
@@ -29,7 +29,7 @@ pub(crate) fn open_store(
     rt: &HostRuntime,
     path: &[u8],
     create: Option<u64>,
-) -> io::Result<Opened> {
+) -> io::Result<OpenedFile> {
     let path = path_text(path)?;
     for _ in 0..TRIES {
         if let Some(opened) = try_open(alloc, rt, path, create)? {
@@ -48,13 +48,13 @@ fn try_open(
     rt: &HostRuntime,
     path: &str,
     create: Option<u64>,
-) -> io::Result<Option<Opened>> {
+) -> io::Result<Option<OpenedFile>> {
     let opened = match open_locked(rt, path) {
         Err(error) if error.kind() == ErrorKind::NotFound => match create {
             Some(size) => make(alloc, rt, path, size)?,
             None => return Err(error),
         },
-        there => Some(Opened {
+        there => Some(OpenedFile {
             file: there?,
             made: None,
         }),
@@ -97,7 +97,7 @@ fn lock(file: &File) -> io::Result<()> {
 
 // Makes a store under a name that can't be guessed, and gives it its own name once it is whole and
 // stable. None where something has that name by then.
-fn make(alloc: Global, rt: &HostRuntime, path: &str, size: u64) -> io::Result<Option<Opened>> {
+fn make(alloc: Global, rt: &HostRuntime, path: &str, size: u64) -> io::Result<Option<OpenedFile>> {
     if !is_free(rt, path) {
         if fs::metadata(rt, path).is_ok() {
             return Ok(None);
@@ -112,7 +112,7 @@ fn make(alloc: Global, rt: &HostRuntime, path: &str, size: u64) -> io::Result<Op
     let put = put_there(alloc, rt, &file, temporary.as_str(), path, size);
     fs::remove_file(rt, temporary.as_str())?;
     match put {
-        Ok(()) => Ok(Some(Opened { file, made })),
+        Ok(()) => Ok(Some(OpenedFile { file, made })),
         Err(error) if error.kind() == ErrorKind::AlreadyExists => Ok(None),
         Err(error) => Err(error),
     }

@@ -8,6 +8,8 @@ pub(crate) struct AppendedPiece {
     pub(crate) count: usize,
     /// The place behind the last write's bytes.
     pub(crate) end: u64,
+    /// How many of the bytes stand in front of what another has appended between two of the writes.
+    pub(crate) torn_at: Option<usize>,
     // Whether all bytes are one piece that ends there.
     single: bool,
 }
@@ -20,6 +22,7 @@ impl AppendedPiece {
         AppendedPiece {
             count: 0,
             end: 0,
+            torn_at: None,
             single: true,
         }
     }
@@ -32,8 +35,11 @@ impl AppendedPiece {
     {
         match place {
             Some(place) if count as u64 <= place => {
-                let begin = place - count as u64;
-                self.single = self.single && (self.count == 0 || self.end == begin);
+                let goes_on = self.count == 0 || self.end == place - count as u64;
+                if self.single && !goes_on {
+                    self.torn_at = Some(self.count);
+                }
+                self.single = self.single && goes_on;
                 self.end = place;
             }
             _ => self.single = false,

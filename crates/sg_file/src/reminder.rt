@@ -36,7 +36,7 @@ impl Reminder {
 }
 
 #[derive(Drop)]
-struct List {
+struct ReminderList {
     all: Vec<Reminder>,
     // When they were told last, or the first one was added.
     last: Option<Instant>,
@@ -47,7 +47,7 @@ struct List {
 pub(crate) struct Reminders {
     rt: HostRuntime,
     count: AtomicU64,
-    list: Mutex<List>,
+    list: Mutex<ReminderList>,
 }
 
 impl Reminders {
@@ -55,7 +55,7 @@ impl Reminders {
         Reminders {
             rt,
             count: AtomicU64::new(0),
-            list: Mutex::new(List {
+            list: Mutex::new(ReminderList {
                 all: Vec::new(alloc),
                 last: None,
             }),

@@ -4,7 +4,7 @@ ghost use Rattle.sg_device.specs.Disk.{Measures, ReadsDisk, Writes, Syncs, HasCa
 ghost use Rattle.sg_device.specs.Faults.{Rose};
 ghost use Rattle.sg_file.specs.Store.{disk_of, new_disk, ReadsWhole, Lengthens};
 
-use crate::fresh::{Opened, open_store, take_away};
+use crate::fresh::{OpenedFile, open_store, take_away};
 use crate::{Health, IdleWait, Reservation};
 use sg_device::{Disk, DiskFault, OpenRefusal};
 use std::alloc::{AllocError, Global};
@@ -44,7 +44,7 @@ impl FileDisk {
     {
         let mut health = Health::new(alloc, rt, "store", path)?;
         match open_measured(alloc, &rt, path, create) {
-            Ok((Opened { file, made }, length)) => Ok(FileDisk {
+            Ok((OpenedFile { file, made }, length)) => Ok(FileDisk {
                 file,
                 made,
                 length,
@@ -184,7 +184,7 @@ fn open_measured(
     rt: &HostRuntime,
     path: &[u8],
     create: Option<u64>,
-) -> io::Result<(Opened, u64)> {
+) -> io::Result<(OpenedFile, u64)> {
     let opened = open_store(alloc, rt, path, create)?;
     let length = length_of(&opened.file)?;
     Ok((opened, length))

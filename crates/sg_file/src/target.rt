@@ -13,6 +13,8 @@ use std::fs::{File, OpenOptions, Permissions};
 use std::io::{self, ErrorKind, Seek, Write};
 use std::os::unix::fs::{OpenOptionsExt, PermissionsExt};
 
+const TORN: &str = "another one appended within a record";
+
 /// How a file is appended to.
 #[derive(Clone, Copy, Debug, Drop)]
 pub struct Appending {
@@ -107,7 +109,7 @@ impl Target {
     {
         let mut piece = AppendedPiece::new();
         for _ in 0..u64::MAX {
-            if piece.count >= bytes.len() {
+            if piece.count >= bytes.len() || piece.torn_at.is_some() {
                 return piece;
             }
             match self.write_some(&bytes[piece.count..]) {
@@ -145,8 +147,13 @@ impl Target {
     {
         let bytes = frames.bytes();
         let mut piece = self.append(bytes);
+        if let Some(count) = piece.torn_at {
+            self.health.fails("write", &io::Error::other(TORN));
+            return self.keep_whole(frames, &mut piece, count);
+        }
         if piece.count < bytes.len() {
-            return self.keep_whole(frames, &mut piece);
+            let count = piece.count;
+            return self.keep_whole(frames, &mut piece, count);
         }
         if self.settle() {
             self.works();
@@ -156,11 +163,12 @@ impl Target {
         0
     }
 
-    // Of what was appended, keeps the whole frames, and tells how many of them count.
-    fn keep_whole(&mut self, frames: &Frames, piece: &mut AppendedPiece) -> usize
+    // Of what was appended, keeps the whole frames within the first `count` bytes, and tells how many of
+    // them count.
+    fn keep_whole(&mut self, frames: &Frames, piece: &mut AppendedPiece, count: usize) -> usize
         ensures { KeepsTarget self.old self.new }
     {
-        let whole = frames.whole_within(piece.count);
+        let whole = frames.whole_within(count);
         self.cut(piece, bytes_of(frames, whole));
         if whole == 0 || self.settle() {
             return whole;

@@ -59,7 +59,8 @@ pub record IsBadAt (patterns : List PatternText) (line : Line) : Type 0 where
   pub at : one.line ≡ line
   pub bad : IsNoPattern (pattern_of one)
 
-pub record IsLargeAt (patterns : List PatternText) (line : Line) (old new : WorldState) : Type 0 where
+pub record IsLargeAt (patterns : List PatternText) (line : Line)
+    (old new : WorldState) : Type 0 where
   pub one : PatternText
   pub among : IsPatternAmong patterns one
   pub at : one.line ≡ line

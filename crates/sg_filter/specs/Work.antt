@@ -14,9 +14,12 @@ use Rattle.sg_filter.specs.Table.{decision_at, IsNodeTable}
 module _ (named : List Expr) where
   -- what a frame makes of what was made last
   abbrev pub does : List Node → CompileFrame → Decision → Decision
-  does nodes (frame.One expr depth pass fail) last = forks depth named expr.now (decision_at nodes pass) (decision_at nodes fail)
-  does nodes (frame.All terms depth fail) last = all_fork (map (forks depth named) terms.now) last (decision_at nodes fail)
-  does nodes (frame.Any terms depth pass) last = any_fork (map (forks depth named) terms.now) (decision_at nodes pass) last
+  does nodes (frame.One expr depth pass fail) last =
+      forks depth named expr.now (decision_at nodes pass) (decision_at nodes fail)
+  does nodes (frame.All terms depth fail) last =
+      all_fork (map (forks depth named) terms.now) last (decision_at nodes fail)
+  does nodes (frame.Any terms depth pass) last =
+      any_fork (map (forks depth named) terms.now) (decision_at nodes pass) last
 
   -- the frames that wait, the first to be done last
   abbrev pub run : List Node → List CompileFrame → Decision → Decision
@@ -46,7 +49,8 @@ pub record NodesGrow (old new : List Node) : Type 0 where
   pub in_order : IsNodeTable old → IsNodeTable new
 
 -- the work came to frames that make this of what was made last, and has made matchers of the patterns that don't wait
-pub record ComesToNodes (named : List Expr) (made : Decision) (patterns : List PatternText) (here : Type 0) (old new : CompileWork) : Type 0 where
+pub record ComesToNodes (named : List Expr) (made : Decision) (patterns : List PatternText)
+    (here : Type 0) (old new : CompileWork) : Type 0 where
   pub grows : here → NodesGrow old.nodes.items new.nodes.items
   pub more : List CompileFrame
   pub frames : new.frames.items ≡ old.frames.items ++ more

@@ -233,7 +233,8 @@ pub(crate) fn made<'e, B: Builder>(
     expr: &'e Expr,
     named: &'e [Expr],
 ) -> Result<CompileWork<'e>, BuildRefusal>
-    ensures leads { IfOk result (λ work. WorkLeads named.now expr.now work × (work.frames.items ≡ [])) }
+    ensures leads { IfOk result (λ work. WorkLeads named.now expr.now work
+        × (work.frames.items ≡ [])) }
     ensures stays { OnOk result (RefusesNone (B.state builder.old) (B.state builder.new)) }
     ensures refused { IfErr result
         (RefusesExpr (B.state builder.old) (B.state builder.new) named.now expr.now) }

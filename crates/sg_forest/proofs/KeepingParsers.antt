@@ -5,7 +5,7 @@ use Rattle.std.specs.List.{flat_map, list_all}
 use Rattle.std.proofs.lemmas.Bool.Decides.{nat_tests}
 use Rattle.sg_msg.specs.Macros.{is_hard}
 use Rattle.sg_parsers.specs.declared.csv.Csv.{Csv}
-use Rattle.sg_parsers.specs.declared.parser.Parser.TheVariants as parser
+use Rattle.sg_parsers.specs.declared.parser.MessageParser.TheVariants as parser
 use Rattle.sg_parsers.specs.Names.{may_name}
 use Rattle.sg_parsers.specs.Csv.{prefixed}
 use Rattle.sg_parse_base.specs.declared.spot.Spot.{Spot}

@@ -23,7 +23,8 @@ use Rattle.sg_forest.specs.Steps.{element_steps, branch_steps, log_steps, elemen
 use Rattle.sg_forest.specs.Patterns.{element_patterns, branch_patterns, log_patterns, elements_patterns, branches_patterns, logs_patterns}
 
 -- behind the old elements stand those that mean these steps and have these patterns
-pub record AddsElements (named : List Expr) (old new : List Element) (steps : Steps → Steps) (patterns : PatternTexts) : Type 0 where
+pub record AddsElements (named : List Expr) (old new : List Element) (steps : Steps → Steps)
+    (patterns : PatternTexts) : Type 0 where
   pub steps_are : (rest : Steps) → in_front (map (element_view named) new) rest
       ≡ in_front (map (element_view named) old) (steps rest)
   pub patterns_are : table.list_patterns named new ≡ table.list_patterns named old ++ patterns
@@ -32,13 +33,15 @@ pub record AddsElements (named : List Expr) (old new : List Element) (steps : St
 abbrev pub AddsElement : Names → List Owner → List (List Call) → RawElement → List Element
     → List Element → Type 0
 AddsElement names outlets rewrites element old new =
-    (named : List Expr) → AddsElements named old new (element_steps names outlets rewrites named element)
+    (named : List Expr) → AddsElements named old new
+    (element_steps names outlets rewrites named element)
     (element_patterns names rewrites named element)
 
 abbrev pub AreElements : Names → List Owner → List (List Call) → List RawElement → List Element
     → Type 0
 AreElements names outlets rewrites elements made =
-    (named : List Expr) → AddsElements named [] made (elements_steps names outlets rewrites named elements)
+    (named : List Expr) → AddsElements named [] made
+    (elements_steps names outlets rewrites named elements)
     (elements_patterns names rewrites named elements)
 
 abbrev pub IsBranch : Names → List Owner → List (List Call) → RawBranch → Expr × Vec Element Global
@@ -69,14 +72,16 @@ AreLogs names outlets rewrites logs made =
     × (table.siblings_patterns named made ≡ logs_patterns names rewrites named logs)
 
 -- a top-level statement
-pub record IsTop (names : Names) (ends : Endpoints) (rewrites : List (List Call)) (log : RawLog) (path : Path) : Type 0 where
+pub record IsTop (names : Names) (ends : Endpoints) (rewrites : List (List Call)) (log : RawLog)
+    (path : Path) : Type 0 where
   pub top : (named : List Expr) → top_view named path ≡ top_in names ends rewrites named log
   pub patterns : (named : List Expr)
       → table.path_patterns named path ≡ log_patterns names rewrites named log
   pub line : line_of path ≡ line_in log
 
 -- behind the old statements stand these
-pub record AddsTops (names : Names) (ends : Endpoints) (rewrites : List (List Call)) (logs : List RawLog) (old new : List Path) : Type 0 where
+pub record AddsTops (names : Names) (ends : Endpoints) (rewrites : List (List Call))
+    (logs : List RawLog) (old new : List Path) : Type 0 where
   pub tops : (named : List Expr) → map (top_view named) new
       ≡ map (top_view named) old ++ map (top_in names ends rewrites named) logs
   pub patterns : (named : List Expr) → table.siblings_patterns named new

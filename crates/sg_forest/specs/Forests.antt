@@ -12,7 +12,8 @@ use Rattle.sg_forest.specs.Written.{written_of}
 use Rattle.sg_forest.specs.Statements.{line_of, filters_in, rewrites_in, lines_in, woods_in, patterns_of_text}
 
 -- all that contracts see of it
-pub record IsForest (names : Names) (ends : Endpoints) (inlets : List InletRule) (statements : List Statement) (forest : Forest) : Type 0 where
+pub record IsForest (names : Names) (ends : Endpoints) (inlets : List InletRule)
+    (statements : List Statement) (forest : Forest) : Type 0 where
   pub woods : woods_of forest ≡ woods_in names ends inlets statements
   pub patterns : patterns_in forest ≡ patterns_of_text names statements
   pub lines : map line_of forest.paths.items ≡ lines_in statements

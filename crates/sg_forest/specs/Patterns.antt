@@ -37,7 +37,8 @@ element_step names rewrites named (RawElement-F.Junction channels) = joined chan
 element_step names rewrites named (RawElement-F.If branches other) = joined branches
     ++ joined_if other
 
-abbrev pub branch_step : Names → List Expr → RawBranch-F PatternTexts PatternTexts PatternTexts → PatternTexts
+abbrev pub branch_step : Names → List Expr → RawBranch-F PatternTexts PatternTexts PatternTexts
+    → PatternTexts
 branch_step names named branch = patterns_of named (expression names branch.test)
     ++ joined branch.elements
 

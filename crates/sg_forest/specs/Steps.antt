@@ -89,18 +89,21 @@ branch_step names named branch = (
 abbrev pub log_step : RawLog-F Onward (Decision × Steps) (Marks × Steps) → Marks × Steps
 log_step log = (marks_of log.flags, in_front log.elements (embedded_logs log.embedded))
 
-unfoldable pub element_steps : Names → List Owner → List (List Call) → List Expr → RawElement → Onward
+unfoldable pub element_steps : Names → List Owner → List (List Call) → List Expr → RawElement
+    → Onward
 element_steps names outlets rewrites named =
     fold-RawElement Onward (Decision × Steps) (Marks × Steps)
     (element_step names outlets rewrites named) (branch_step names named) log_step
 
-unfoldable pub branch_steps : Names → List Owner → List (List Call) → List Expr → RawBranch → Decision × Steps
+unfoldable pub branch_steps : Names → List Owner → List (List Call) → List Expr → RawBranch
+    → Decision × Steps
 branch_steps names outlets rewrites named =
     fold-RawBranch Onward (Decision × Steps) (Marks × Steps)
     (element_step names outlets rewrites named) (branch_step names named) log_step
 
 -- a statement or channel: its flags, and its elements
-unfoldable pub log_steps : Names → List Owner → List (List Call) → List Expr → RawLog → Marks × Steps
+unfoldable pub log_steps : Names → List Owner → List (List Call) → List Expr → RawLog
+    → Marks × Steps
 log_steps names outlets rewrites named =
     fold-RawLog Onward (Decision × Steps) (Marks × Steps)
     (element_step names outlets rewrites named) (branch_step names named) log_step

@@ -33,7 +33,9 @@ is_sound (clear_tag tag) = true
 
 -- one whose name no pair may have, and so is refused, stands for nothing
 abbrev pub written_in : Names → Call → List WrittenRule
-written_in names call = if is_sound (meant_by call) then (record { condition = condition names (args_of call); operation = meant_by call }) ∷ [] else []
+written_in names call = if is_sound (meant_by call)
+    then (record { condition = condition names (args_of call); operation = meant_by call }) ∷ []
+    else []
 
 -- what becomes of a message
 abbrev pub change_by : Meant → Change
@@ -47,7 +49,10 @@ change_by (set_tag tag) = change.SetTag tag
 change_by (clear_tag tag) = change.ClearTag tag
 
 abbrev pub rule_by : List Expr → WrittenRule → Rule
-rule_by named written = record { condition = condition_of named written.condition; change = change_by written.operation }
+rule_by named written = record {
+  condition = condition_of named written.condition;
+  change = change_by written.operation;
+}
 
 abbrev pub pattern_in : Meant → PatternTexts
 pattern_in (set name text) = []

@@ -52,11 +52,13 @@ count_of limit place value = if nat_lt 0 value && nat_le value limit then Count 
 -- than the limit, which begins the next; a count is digits and one space
 abbrev pub open_at : (limit place : ℕ) → Form → ℕ → Form
 open_at limit place (Text line) b =
-    if b == 10 then Text [] else (if length line == limit then Text (b ∷ []) else Text (line ++ b ∷ []))
+    if b == 10 then Text [] else (if length line == limit then Text (b ∷ [])
+    else Text (line ++ b ∷ []))
 open_at limit place (Count value) b =
     if is_digit b then count_of limit place (value * 10 + (b - 48))
     else (if b == 32 && nat_lt 0 value then Body value [] else Bad place)
-open_at limit place (Body missing text) b = if missing == 1 then Count 0 else Body (missing - 1) (text ++ b ∷ [])
+open_at limit place (Body missing text) b =
+    if missing == 1 then Count 0 else Body (missing - 1) (text ++ b ∷ [])
 open_at limit place (Bad bad) b = Bad bad
 
 abbrev pub item_of : List ℕ → ℤ → ℕ → List Item
@@ -68,7 +70,8 @@ item_at limit place (Text line) b =
     if b.0 == 10 then item_of (trimmed line) b.1 (place + 1)
     else (if length line == limit then item_of (trimmed line) b.1 place else [])
 item_at limit place (Count value) b = []
-item_at limit place (Body missing text) b = if missing == 1 then item_of (text ++ b.0 ∷ []) b.1 (place + 1) else []
+item_at limit place (Body missing text) b =
+    if missing == 1 then item_of (text ++ b.0 ∷ []) b.1 (place + 1) else []
 item_at limit place (Bad bad) b = []
 
 -- the items that these bytes, from this place on, make whole behind what stands open

@@ -20,14 +20,16 @@ pub record IsScanned (limit : ℕ) (bytes : List ℕ) (scanned : ℕ) : Type 0 w
   pub no_feed : (k : ℕ) → k < scanned → slice_index bytes k ≢ 10
 
 -- the runs cover the bytes
-pub record AreRunsKept (limit place scanned : ℕ) (bytes : List ℕ) (runs : List TimedRun) : Type 0 where
+pub record AreRunsKept (limit place scanned : ℕ) (bytes : List ℕ)
+    (runs : List TimedRun) : Type 0 where
   pub some : 0 < limit
   pub covers : runs_end place runs ≡ place + length bytes
   pub in_range : place + length bytes < 2 ^ 63
   pub scan : IsScanned limit bytes scanned
 
 -- an item's text and moment, and what is kept behind it
-pub record Cuts (place : ℕ) (span : ItemSpan) (old new : List ℕ) (runs left : List TimedRun) (cut : List ℕ) (at : ℤ) : Type 0 where
+pub record Cuts (place : ℕ) (span : ItemSpan) (old new : List ℕ) (runs left : List TimedRun)
+    (cut : List ℕ) (at : ℤ) : Type 0 where
   pub text : cut ≡ slice_range old span.from span.to
   pub rest : new ≡ drop span.taken old
   pub moment : at ≡ slice_index_or (moments place runs) span.last (pos 0)

@@ -15,7 +15,8 @@ abbrev pub plain : List Stamped → List ℕ
 plain bytes = map (λ b. b.0) bytes
 
 -- the items and the open form of `held` are those of what follows its first bytes, behind this form
-pub record Continues (kind : FrameKind) (limit place : ℕ) (held : List Stamped) (first : List Item) (next : ℕ) (form : Form) (rest : List Stamped) : Type 0 where
+pub record Continues (kind : FrameKind) (limit place : ℕ) (held : List Stamped) (first : List Item)
+    (next : ℕ) (form : Form) (rest : List Stamped) : Type 0 where
   pub items : items limit place (beginning kind) held ≡ first ++ items limit next form rest
   pub still_open : open_after limit place (beginning kind) held ≡ open_after limit next form rest
 
@@ -34,8 +35,12 @@ pub record IsItem (kind : FrameKind) (limit : ℕ) (bytes : List ℕ) (span : It
   pub taken : (span.last ≤ span.taken) × (span.taken ≤ length bytes)
   pub first : (place : ℕ) (held : List Stamped) → plain held ≡ bytes
       → Continues kind limit place held
-      ((record
-      { text = slice_range bytes span.from span.to; at = (slice_index_or held span.last (0, pos 0)).1; end = place + span.taken })
+      ((record {
+        text = slice_range bytes span.from span.to;
+        at =
+            (slice_index_or held span.last (0, pos 0)).1;
+        end = place + span.taken;
+      })
       ∷ [])
       (place + span.taken) (beginning kind) (drop span.taken held)
 
@@ -50,7 +55,8 @@ HasNone kind limit bytes =
 abbrev pub HasBad : FrameKind → (limit : ℕ) → List ℕ → ℕ → Type 0
 HasBad kind limit bytes ahead =
     (ahead < length bytes) × ((place : ℕ) (held : List Stamped) → plain held ≡ bytes
-    → (items limit place (beginning kind) held ≡ []) × (open_after limit place (beginning kind) held ≡ BadForm (place + ahead)))
+    → (items limit place (beginning kind) held ≡ [])
+    × (open_after limit place (beginning kind) held ≡ BadForm (place + ahead)))
 
 abbrev pub Sees : FrameKind → (limit : ℕ) → List ℕ → Seen → Type 0
 Sees kind limit bytes (Whole span) = IsItem kind limit bytes span

@@ -9,7 +9,8 @@ row_of links i = slice_index_or links i []
 -- by one name or by several in a row
 pub data ReachesNode (links : List (List ℕ)) : ℕ → ℕ → Type 0 where
   direct : (i j : ℕ) → Contains (row_of links i) j → ReachesNode links i j
-  through : (i j k : ℕ) → Contains (row_of links i) j → ReachesNode links j k → ReachesNode links i k
+  through : (i j k : ℕ) → Contains (row_of links i) j → ReachesNode links j k
+      → ReachesNode links i k
 
 abbrev pub IsOnCycle : List (List ℕ) → ℕ → Type 0
 IsOnCycle links i = ReachesNode links i i

@@ -7,7 +7,8 @@ abbrev pub unseen : List Bool → ℕ
 unseen seen = count_by not seen
 
 -- nodes that had no mark have one now, and wait
-pub record VisitsNodes (nodes : List ℕ) (seen : List Bool) (waiting : List ℕ) (after : List Bool) (waits : List ℕ) : Type 0 where
+pub record VisitsNodes (nodes : List ℕ) (seen : List Bool) (waiting : List ℕ) (after : List Bool)
+    (waits : List ℕ) : Type 0 where
   pub size : length after ≡ length seen
   pub all : (i : ℕ) → Contains nodes i → slice_index_or after i true ≡ true
   pub stays : (i : ℕ) → slice_index_or seen i true ≡ true → slice_index_or after i true ≡ true

@@ -21,7 +21,8 @@ pub fn visit_one(seen: &mut [bool], waiting: &mut Vec<u32>, node: u32) -> Result
 
 /// The same with each of these.
 pub fn visit(seen: &mut [bool], waiting: &mut Vec<u32>, nodes: &[u32]) -> Result<(), AllocError>
-    ensures { OnOk result (VisitsNodes nodes.now seen.old waiting.old.items seen.new waiting.new.items) }
+    ensures { OnOk result (VisitsNodes nodes.now seen.old waiting.old.items seen.new
+        waiting.new.items) }
 {
     for node in nodes {
         visit_one(seen, waiting, *node)?;

@@ -55,7 +55,8 @@ fn are_marked(marks: &[bool], nodes: &[u32]) -> bool
 
 /// Whether a node's size isn't known, but the sizes of all that it names are.
 fn is_ready(links: &[Items<u32>], done: &[bool], node: u32) -> bool
-    ensures { MatchBool result (IsNodeReady links.now done.now node) (IsNodeHeld links.now done.now node) }
+    ensures { MatchBool result (IsNodeReady links.now done.now node)
+        (IsNodeHeld links.now done.now node) }
 {
     if is_marked(done, node) {
         return false;

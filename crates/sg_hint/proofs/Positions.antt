@@ -14,7 +14,7 @@ use Rattle.sg_tree.specs.Offers.{woods_of}
 use Rattle.sg_tree.specs.declared.refusal.PathRefusal.{PathRefusal}
 use Rattle.sg_hint.specs.Lines.{more}
 use Rattle.sg_hint.specs.Meanings.{name_of, IsNameOf}
-use Rattle.sg_hint.specs.Listed.{column_at, column_of, lines_of, numbered, IsAgain, IsCompiled, IsFirstWrong, IsInList, IsListed, IsPathFault, IsPathsFirst, ArePathsRefused, IsSpotOf, IsSpotted}
+use Rattle.sg_hint.specs.Listed.{column_at, column_of, lines_of, numbered, IsAgain, IsCompiled, IsFirstWrong, IsInList, IsListed, IsListedPathFault, IsPathsFirst, ArePathsRefused, IsSpotOf, IsSpotted}
 use Rattle.sg_hint.specs.declared.written.Spotted.{Spotted}
 use Rattle.sg_hint.proofs.Briefs.{name-is}
 
@@ -27,7 +27,7 @@ compiled-by config old new (Ok table) valid bound h = (valid, bound)
 compiled-by config old new (Err refusal) valid bound h = record { old = old; new = new; refuses = h }
 
 pub paths-refused : (config : Config) (refusal : PathRefusal) (fault : ConfigFault) → ArePathsRefused config refusal
-    → IsPathFault refusal fault → IsPathsFirst config (Some fault)
+    → IsListedPathFault refusal fault → IsPathsFirst config (Some fault)
 paths-refused config refusal fault refused is = record { refusal = refusal; refused = refused; is = is }
 
 -- the fault of the log paths is one of the tokens

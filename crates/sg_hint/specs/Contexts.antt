@@ -4,15 +4,15 @@ use Rattle.sg_lex.specs.declared.token.Token.{Token}
 use Rattle.sg_parse_base.specs.Tokens.{is_symbol}
 use Rattle.sg_parse_expr.specs.Forms.{row_of}
 use Rattle.sg_hint.specs.declared.context.Around.{Around}
-use Rattle.sg_hint.specs.declared.context.Body.{Body}
-use Rattle.sg_hint.specs.declared.context.Body.TheVariants as body
-use Rattle.sg_hint.specs.declared.context.Context.{Context}
-use Rattle.sg_hint.specs.declared.context.Context.TheVariants as context
+use Rattle.sg_hint.specs.declared.context.BodyKind.{BodyKind}
+use Rattle.sg_hint.specs.declared.context.BodyKind.TheVariants as body
+use Rattle.sg_hint.specs.declared.context.HintContext.{HintContext}
+use Rattle.sg_hint.specs.declared.context.HintContext.TheVariants as context
 
 -- ---- the words in front of what opens
 
 -- What a brace holds by the word in front of it, or in front of the name there; behind `)` it is that of `if`.
-unfoldable pub bodies : List (List ℕ × Body)
+unfoldable pub bodies : List (List ℕ × BodyKind)
 bodies =
     (codes "log", body.Path)
     ∷ (codes "channel", body.Path)
@@ -29,10 +29,11 @@ bodies =
     ∷ []
 
 -- parentheses that hold a filter
-unfoldable pub conditions : List (List ℕ × Body)
-conditions = (codes "if", body.Filter) ∷ (codes "elif", body.Filter) ∷ (codes "condition", body.Filter) ∷ []
+unfoldable pub conditions : List (List ℕ × BodyKind)
+conditions = (codes "if", body.Filter) ∷ (codes "elif", body.Filter)
+    ∷ (codes "condition", body.Filter) ∷ []
 
-unfoldable pub in_source : List (List ℕ × Context)
+unfoldable pub in_source : List (List ℕ × HintContext)
 in_source =
     (codes "file", context.FileSource)
     ∷ (codes "network", context.NetworkSource)
@@ -44,7 +45,7 @@ in_source =
     ∷ (codes "default-priority", context.Levels)
     ∷ []
 
-unfoldable pub in_destination : List (List ℕ × Context)
+unfoldable pub in_destination : List (List ℕ × HintContext)
 in_destination =
     (codes "file", context.FileDestination)
     ∷ (codes "network", context.NetworkDestination)
@@ -54,7 +55,7 @@ in_destination =
     ∷ (codes "transport", context.Transports)
     ∷ []
 
-unfoldable pub in_filter : List (List ℕ × Context)
+unfoldable pub in_filter : List (List ℕ × HintContext)
 in_filter =
     (codes "(", context.Filters)
     ∷ (codes "{", context.Filters)
@@ -73,7 +74,7 @@ in_filter =
     ∷ (codes "priority", context.Levels)
     ∷ []
 
-unfoldable pub in_rewrite : List (List ℕ × Context)
+unfoldable pub in_rewrite : List (List ℕ × HintContext)
 in_rewrite =
     (codes "set", context.Set)
     ∷ (codes "unset", context.Set)
@@ -86,7 +87,7 @@ in_rewrite =
     ∷ (codes "flags", context.SubstFlags)
     ∷ []
 
-unfoldable pub in_parser : List (List ℕ × Context)
+unfoldable pub in_parser : List (List ℕ × HintContext)
 in_parser =
     (codes "csv-parser", context.Csv)
     ∷ (codes "kv-parser", context.Kv)
@@ -94,10 +95,10 @@ in_parser =
     ∷ (codes "flags", context.CsvFlags)
     ∷ []
 
-unfoldable pub in_path : List (List ℕ × Context)
+unfoldable pub in_path : List (List ℕ × HintContext)
 in_path = (codes "flags", context.PathFlags) ∷ []
 
-unfoldable pub in_options : List (List ℕ × Context)
+unfoldable pub in_options : List (List ℕ × HintContext)
 in_options = (codes "ts-format", context.Stamps) ∷ []
 
 -- ---- what opens
@@ -115,19 +116,19 @@ token_text (Some token) = token.text
 abbrev pub text_at : List Token → ℕ → List ℕ
 text_at tokens at = token_text (slice_get tokens at)
 
-abbrev pub first_body : Option Body → Option Body → Option Body
+abbrev pub first_body : Option BodyKind → Option BodyKind → Option BodyKind
 first_body None near = near
 first_body (Some far) near = Some far
 
 -- the body that opens with the token of this place, if one does
-abbrev pub body_at : List Token → ℕ → Token → Option Body
+abbrev pub body_at : List Token → ℕ → Token → Option BodyKind
 body_at tokens at token =
     if is_symbol 123 token then
     first_body (row_of bodies (text_at tokens (at - 2))) (row_of bodies (text_at tokens (at - 1)))
     else row_of conditions (text_at tokens (at - 1))
 
 -- what the language has at the beginning of a body's items
-abbrev pub body_context : Body → Context
+abbrev pub body_context : BodyKind → HintContext
 body_context body.Path = context.Elements
 body_context body.Channels = context.Channels
 body_context body.Source = context.Drivers
@@ -139,7 +140,7 @@ body_context body.Options = context.Globals
 body_context body.Template = context.Templates
 
 -- what it has in the parentheses of a call in a body
-abbrev pub call_row : Body → List ℕ → Option Context
+abbrev pub call_row : BodyKind → List ℕ → Option HintContext
 call_row body.Path word = row_of in_path word
 call_row body.Channels word = None
 call_row body.Source word = row_of in_source word
@@ -150,16 +151,16 @@ call_row body.Parser word = row_of in_parser word
 call_row body.Options word = row_of in_options word
 call_row body.Template word = None
 
-abbrev pub or_anywhere : Option Context → Context
+abbrev pub or_anywhere : Option HintContext → HintContext
 or_anywhere None = context.Anywhere
 or_anywhere (Some found) = found
 
-abbrev pub call_context : Option Body → List ℕ → Context
+abbrev pub call_context : Option BodyKind → List ℕ → HintContext
 call_context None word = context.Anywhere
 call_context (Some within) word = or_anywhere (call_row within word)
 
 -- what is around the tokens behind one that opens: the body it begins, or else a call's parentheses in the body so far
-abbrev pub around_of : Option Body → Around → List ℕ → Around
+abbrev pub around_of : Option BodyKind → Around → List ℕ → Around
 around_of None outer word = record { body = outer.body; context = call_context outer.body word }
 around_of (Some begun) outer word = record { body = Some begun; context = body_context begun }
 
@@ -189,5 +190,5 @@ stack_from tokens stack at (token ∷ rest) =
     stack_from tokens (stack_behind tokens stack at token) (at + 1) rest
 
 -- what the language has at the token of this place
-abbrev pub context_of : List Token → ℕ → Context
+abbrev pub context_of : List Token → ℕ → HintContext
 context_of tokens at = (innermost (stack_from tokens [] 0 (take at tokens))).context

@@ -18,7 +18,8 @@ pub record HasHintForm (fault : ConfigFault) (names : List (List ℕ)) (text : L
 
 -- What is shown of a fault in this text of its file: its line, and where the fault's token is known, which begins at this column,
 -- a mark below it and what may have been meant.
-pub record IsHintOf (read new : WorldState) (fault : ConfigFault) (names : List (List ℕ)) (content text : List ℕ) : Type 0 where
+pub record IsHintOf (read new : WorldState) (fault : ConfigFault) (names : List (List ℕ))
+    (content text : List ℕ) : Type 0 where
   pub line : List ℕ
   pub spotted : Option Spotted
   pub is_line : numbered_line content fault.line ≡ Some line
@@ -34,7 +35,8 @@ HintsOf read new fault names content (Some text) = IsHintOf read new fault names
 HintsOf read new fault names content None = numbered_line content fault.line ≡ None
 
 -- The fault's file is read again, and this is what it holds then.
-pub record HintsAgain (old new : WorldState) (fault : ConfigFault) (names : List (List ℕ)) (text : Option (Vec ℕ Global)) : Type 0 where
+pub record HintsAgain (old new : WorldState) (fault : ConfigFault) (names : List (List ℕ))
+    (text : Option (Vec ℕ Global)) : Type 0 where
   pub content : List ℕ
   pub read : WorldState
   pub file : IsContent old.files (name_at names fault.file) content
@@ -45,4 +47,5 @@ pub record HintsAgain (old new : WorldState) (fault : ConfigFault) (names : List
 abbrev pub Hints : WorldState → WorldState → ConfigFault → List (List ℕ) → Option (Vec ℕ Global)
     → Type 0
 Hints old new fault names text = HintsAgain old new fault names text
-    ⊎ ((text ≡ None) × ((length names ≤ fault.file) ⊎ FailsToRead old new (name_at names fault.file)))
+    ⊎ ((text ≡ None) × ((length names ≤ fault.file)
+    ⊎ FailsToRead old new (name_at names fault.file)))

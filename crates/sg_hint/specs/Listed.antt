@@ -24,11 +24,11 @@ abbrev pub fault_of : ConfigKind → Line → ConfigFault
 fault_of kind line = record { kind = kind; file = line.file; line = line.line }
 
 -- the fault that a refusal of log paths is
-abbrev pub IsPathFault : PathRefusal → ConfigFault → Type 0
-IsPathFault (BadPattern line) fault = fault ≡ fault_of kind.BadPattern line
-IsPathFault (PatternTooLarge line) fault = fault ≡ fault_of kind.PatternTooLarge line
-IsPathFault (TooManyOffers line) fault = fault ≡ fault_of kind.TooManyOffers line
-IsPathFault NoMemory fault = ⊥
+abbrev pub IsListedPathFault : PathRefusal → ConfigFault → Type 0
+IsListedPathFault (BadPattern line) fault = fault ≡ fault_of kind.BadPattern line
+IsListedPathFault (PatternTooLarge line) fault = fault ≡ fault_of kind.PatternTooLarge line
+IsListedPathFault (TooManyOffers line) fault = fault ≡ fault_of kind.TooManyOffers line
+IsListedPathFault NoMemory fault = ⊥
 
 -- The log paths of a configuration are refused.
 pub record ArePathsRefused (config : Config) (refusal : PathRefusal) : Type 0 where
@@ -46,7 +46,7 @@ IsCompiled config (Some refusal) = ArePathsRefused config refusal
 pub record IsUncompiledConfig (config : Config) (fault : ConfigFault) : Type 0 where
   pub refusal : PathRefusal
   pub refused : ArePathsRefused config refusal
-  pub is : IsPathFault refusal fault
+  pub is : IsListedPathFault refusal fault
 
 -- what is wrong with log paths, if anything is
 abbrev pub IsPathsFirst : Config → Option ConfigFault → Type 0
@@ -93,7 +93,8 @@ IsSpotOf tokens column fault (Some again) spotted = (IsAgain fault again
     × IsSpotted fault.kind tokens (again.line - 1) (column (again.line - 1)) spotted)
     ⊎ ((IsAgain fault again → ⊥) × (spotted ≡ None))
 
-pub record IsInList (tokens : List Token) (column : ℕ → Option ℕ) (fault : ConfigFault) (spotted : Option Spotted) : Type 0 where
+pub record IsInList (tokens : List Token) (column : ℕ → Option ℕ) (fault : ConfigFault)
+    (spotted : Option Spotted) : Type 0 where
   pub first : Option ConfigFault
   pub wrong : IsFirstWrong tokens first
   pub spot : IsSpotOf tokens column fault first spotted

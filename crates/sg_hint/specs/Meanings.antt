@@ -9,7 +9,7 @@ use Rattle.sg_hint.specs.Nearer.{meant_of}
 use Rattle.sg_hint.specs.Names.{IsNameMeant, name_meant}
 use Rattle.sg_hint.specs.Words.{fitting_words}
 use Rattle.sg_hint.specs.Contexts.{context_of}
-use Rattle.sg_hint.specs.declared.context.Context.{Context}
+use Rattle.sg_hint.specs.declared.context.HintContext.{HintContext}
 
 -- the one of these words that was meant by a word
 abbrev pub IsListedFor : List (List ℕ) → Bool → List ℕ → Option (List ℕ) → Type 0
@@ -30,12 +30,12 @@ IsNameOf Unexpected tokens at meant =
 IsNameOf _ tokens at meant = meant ≡ None
 
 -- the same, as it is looked for
-abbrev pub word_of : Context → Option Token → Option (List ℕ)
+abbrev pub word_of : HintContext → Option Token → Option (List ℕ)
 word_of context None = None
 word_of context (Some token) =
     if is_word token then meant_of token.text (fitting_words context) else None
 
-abbrev pub name_in : ConfigKind → Context → List Token → ℕ → Option (List ℕ)
+abbrev pub name_in : ConfigKind → HintContext → List Token → ℕ → Option (List ℕ)
 name_in UnknownName context tokens at = name_meant tokens at
 name_in Unsupported context tokens at = word_of context (slice_get tokens at)
 name_in Unexpected context tokens at = word_of context (slice_get tokens at)

@@ -41,13 +41,15 @@ SpotsBy fault text (Err (Bad again names)) spotted = IsStoppedExpansion fault ag
 SpotsBy fault text (Err (ReadFault name)) spotted = spotted ≡ None
 SpotsBy fault text (Err NoMemory) spotted = ⊥
 
-pub record SpotsAgain (old new : WorldState) (name main : List ℕ) (fault : ConfigFault) (text : List ℕ) (spotted : Option Spotted) : Type 0 where
+pub record SpotsAgain (old new : WorldState) (name main : List ℕ) (fault : ConfigFault)
+    (text : List ℕ) (spotted : Option Spotted) : Type 0 where
   pub answer : Result Expanded ExpandRefusal
   pub expands : IsExpanded old new name main answer
   pub spots : SpotsBy fault text answer spotted
 
 -- The main file is read again and expanded.
-pub record Spots (read new : WorldState) (fault : ConfigFault) (names : List (List ℕ)) (text : List ℕ) (spotted : Option Spotted) : Type 0 where
+pub record Spots (read new : WorldState) (fault : ConfigFault) (names : List (List ℕ))
+    (text : List ℕ) (spotted : Option Spotted) : Type 0 where
   pub main : List ℕ
   pub start : WorldState
   pub content : IsContent read.files (name_at names 0) main

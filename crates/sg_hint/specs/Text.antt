@@ -8,7 +8,8 @@ use Rattle.sg_hint.specs.declared.written.Spotted.{Spotted}
 
 -- the fault's file and line
 abbrev pub place_text : ConfigFault → List (List ℕ) → List ℕ
-place_text fault names = map shown_byte (name_at names fault.file) ++ (codes ":" ++ decimal fault.line)
+place_text fault names = map shown_byte (name_at names fault.file)
+    ++ (codes ":" ++ decimal fault.line)
 
 -- what is wrong, and the end of the line
 abbrev pub kind_line : ConfigFault → List ℕ
@@ -52,5 +53,6 @@ hint_text fault names line spotted = place_text fault names ++ behind_place faul
 -- The byte above the mark is that of the line at which the token begins.
 abbrev pub IsAbove : List ℕ → ℕ → Type 0
 IsAbove line at =
-    slice_get (shown_part line (hidden_before (length line) at)) (at - hidden_before (length line) at)
+    slice_get (shown_part line (hidden_before (length line) at))
+    (at - hidden_before (length line) at)
     ≡ slice_get line at

@@ -12,7 +12,7 @@ use std::alloc::Global;
 
 /// What a brace holds, or the parentheses of a condition.
 #[derive(Clone, Copy, Drop)]
-pub enum Body {
+pub enum BodyKind {
     Path,
     Channels,
     Source,
@@ -26,7 +26,7 @@ pub enum Body {
 
 /// What the language has in a place.
 #[derive(Clone, Copy, Drop)]
-pub enum Context {
+pub enum HintContext {
     /// Nothing is known of the place.
     Anywhere,
     Statements,
@@ -67,150 +67,150 @@ pub enum Context {
 /// What is around tokens: the innermost body, and what the language has there.
 #[derive(Clone, Copy, Drop)]
 pub struct Around {
-    pub body: Option<Body>,
-    pub context: Context,
+    pub body: Option<BodyKind>,
+    pub context: HintContext,
 }
 
-const BODIES: [(&[u8], Body); 12] = [
-    (b"log", Body::Path),
-    (b"channel", Body::Path),
-    (b"else", Body::Path),
-    (b")", Body::Path),
-    (b"junction", Body::Channels),
-    (b"source", Body::Source),
-    (b"destination", Body::Destination),
-    (b"filter", Body::Filter),
-    (b"rewrite", Body::Rewrite),
-    (b"parser", Body::Parser),
-    (b"options", Body::Options),
-    (b"template", Body::Template),
+const BODIES: [(&[u8], BodyKind); 12] = [
+    (b"log", BodyKind::Path),
+    (b"channel", BodyKind::Path),
+    (b"else", BodyKind::Path),
+    (b")", BodyKind::Path),
+    (b"junction", BodyKind::Channels),
+    (b"source", BodyKind::Source),
+    (b"destination", BodyKind::Destination),
+    (b"filter", BodyKind::Filter),
+    (b"rewrite", BodyKind::Rewrite),
+    (b"parser", BodyKind::Parser),
+    (b"options", BodyKind::Options),
+    (b"template", BodyKind::Template),
 ];
 
-const CONDITIONS: [(&[u8], Body); 3] = [
-    (b"if", Body::Filter),
-    (b"elif", Body::Filter),
-    (b"condition", Body::Filter),
+const CONDITIONS: [(&[u8], BodyKind); 3] = [
+    (b"if", BodyKind::Filter),
+    (b"elif", BodyKind::Filter),
+    (b"condition", BodyKind::Filter),
 ];
 
-const IN_SOURCE: [(&[u8], Context); 8] = [
-    (b"file", Context::FileSource),
-    (b"network", Context::NetworkSource),
-    (b"syslog", Context::NetworkSource),
-    (b"flags", Context::SourceFlags),
-    (b"transport", Context::Transports),
-    (b"default-facility", Context::Levels),
-    (b"default-level", Context::Levels),
-    (b"default-priority", Context::Levels),
+const IN_SOURCE: [(&[u8], HintContext); 8] = [
+    (b"file", HintContext::FileSource),
+    (b"network", HintContext::NetworkSource),
+    (b"syslog", HintContext::NetworkSource),
+    (b"flags", HintContext::SourceFlags),
+    (b"transport", HintContext::Transports),
+    (b"default-facility", HintContext::Levels),
+    (b"default-level", HintContext::Levels),
+    (b"default-priority", HintContext::Levels),
 ];
 
-const IN_DESTINATION: [(&[u8], Context); 6] = [
-    (b"file", Context::FileDestination),
-    (b"network", Context::NetworkDestination),
-    (b"syslog", Context::SyslogDestination),
-    (b"disk-buffer", Context::DiskBuffer),
-    (b"ts-format", Context::Stamps),
-    (b"transport", Context::Transports),
+const IN_DESTINATION: [(&[u8], HintContext); 6] = [
+    (b"file", HintContext::FileDestination),
+    (b"network", HintContext::NetworkDestination),
+    (b"syslog", HintContext::SyslogDestination),
+    (b"disk-buffer", HintContext::DiskBuffer),
+    (b"ts-format", HintContext::Stamps),
+    (b"transport", HintContext::Transports),
 ];
 
-const IN_FILTER: [(&[u8], Context); 15] = [
-    (b"(", Context::Filters),
-    (b"{", Context::Filters),
-    (b"not", Context::Filters),
-    (b"and", Context::Filters),
-    (b"or", Context::Filters),
-    (b"program", Context::Pattern),
-    (b"host", Context::Pattern),
-    (b"message", Context::Pattern),
-    (b"match", Context::Match),
-    (b"type", Context::Kinds),
-    (b"flags", Context::PatternFlags),
-    (b"facility", Context::Levels),
-    (b"level", Context::Levels),
-    (b"severity", Context::Levels),
-    (b"priority", Context::Levels),
+const IN_FILTER: [(&[u8], HintContext); 15] = [
+    (b"(", HintContext::Filters),
+    (b"{", HintContext::Filters),
+    (b"not", HintContext::Filters),
+    (b"and", HintContext::Filters),
+    (b"or", HintContext::Filters),
+    (b"program", HintContext::Pattern),
+    (b"host", HintContext::Pattern),
+    (b"message", HintContext::Pattern),
+    (b"match", HintContext::Match),
+    (b"type", HintContext::Kinds),
+    (b"flags", HintContext::PatternFlags),
+    (b"facility", HintContext::Levels),
+    (b"level", HintContext::Levels),
+    (b"severity", HintContext::Levels),
+    (b"priority", HintContext::Levels),
 ];
 
-const IN_REWRITE: [(&[u8], Context); 9] = [
-    (b"set", Context::Set),
-    (b"unset", Context::Set),
-    (b"subst", Context::Subst),
-    (b"groupset", Context::Group),
-    (b"groupunset", Context::Group),
-    (b"set-tag", Context::Tag),
-    (b"clear-tag", Context::Tag),
-    (b"type", Context::Kinds),
-    (b"flags", Context::SubstFlags),
+const IN_REWRITE: [(&[u8], HintContext); 9] = [
+    (b"set", HintContext::Set),
+    (b"unset", HintContext::Set),
+    (b"subst", HintContext::Subst),
+    (b"groupset", HintContext::Group),
+    (b"groupunset", HintContext::Group),
+    (b"set-tag", HintContext::Tag),
+    (b"clear-tag", HintContext::Tag),
+    (b"type", HintContext::Kinds),
+    (b"flags", HintContext::SubstFlags),
 ];
 
-const IN_PARSER: [(&[u8], Context); 4] = [
-    (b"csv-parser", Context::Csv),
-    (b"kv-parser", Context::Kv),
-    (b"delimiters", Context::Delimiters),
-    (b"flags", Context::CsvFlags),
+const IN_PARSER: [(&[u8], HintContext); 4] = [
+    (b"csv-parser", HintContext::Csv),
+    (b"kv-parser", HintContext::Kv),
+    (b"delimiters", HintContext::Delimiters),
+    (b"flags", HintContext::CsvFlags),
 ];
 
-const IN_PATH: [(&[u8], Context); 1] = [(b"flags", Context::PathFlags)];
+const IN_PATH: [(&[u8], HintContext); 1] = [(b"flags", HintContext::PathFlags)];
 
-const IN_OPTIONS: [(&[u8], Context); 1] = [(b"ts-format", Context::Stamps)];
+const IN_OPTIONS: [(&[u8], HintContext); 1] = [(b"ts-format", HintContext::Stamps)];
 
 #[tactic(auto, unfolding(crate::specs::Contexts::bodies))]
-fn body_of(word: &[u8]) -> Option<Body>
+fn body_of(word: &[u8]) -> Option<BodyKind>
     ensures { result ≡ row_of spec.bodies word.now }
 {
     row_of(&BODIES, word)
 }
 
 #[tactic(auto, unfolding(crate::specs::Contexts::conditions))]
-fn condition_of(word: &[u8]) -> Option<Body>
+fn condition_of(word: &[u8]) -> Option<BodyKind>
     ensures { result ≡ row_of spec.conditions word.now }
 {
     row_of(&CONDITIONS, word)
 }
 
 #[tactic(auto, unfolding(crate::specs::Contexts::in_source))]
-fn in_source(word: &[u8]) -> Option<Context>
+fn in_source(word: &[u8]) -> Option<HintContext>
     ensures { result ≡ row_of spec.in_source word.now }
 {
     row_of(&IN_SOURCE, word)
 }
 
 #[tactic(auto, unfolding(crate::specs::Contexts::in_destination))]
-fn in_destination(word: &[u8]) -> Option<Context>
+fn in_destination(word: &[u8]) -> Option<HintContext>
     ensures { result ≡ row_of spec.in_destination word.now }
 {
     row_of(&IN_DESTINATION, word)
 }
 
 #[tactic(auto, unfolding(crate::specs::Contexts::in_filter))]
-fn in_filter(word: &[u8]) -> Option<Context>
+fn in_filter(word: &[u8]) -> Option<HintContext>
     ensures { result ≡ row_of spec.in_filter word.now }
 {
     row_of(&IN_FILTER, word)
 }
 
 #[tactic(auto, unfolding(crate::specs::Contexts::in_rewrite))]
-fn in_rewrite(word: &[u8]) -> Option<Context>
+fn in_rewrite(word: &[u8]) -> Option<HintContext>
     ensures { result ≡ row_of spec.in_rewrite word.now }
 {
     row_of(&IN_REWRITE, word)
 }
 
 #[tactic(auto, unfolding(crate::specs::Contexts::in_parser))]
-fn in_parser(word: &[u8]) -> Option<Context>
+fn in_parser(word: &[u8]) -> Option<HintContext>
     ensures { result ≡ row_of spec.in_parser word.now }
 {
     row_of(&IN_PARSER, word)
 }
 
 #[tactic(auto, unfolding(crate::specs::Contexts::in_path))]
-fn in_path(word: &[u8]) -> Option<Context>
+fn in_path(word: &[u8]) -> Option<HintContext>
     ensures { result ≡ row_of spec.in_path word.now }
 {
     row_of(&IN_PATH, word)
 }
 
 #[tactic(auto, unfolding(crate::specs::Contexts::in_options))]
-fn in_options(word: &[u8]) -> Option<Context>
+fn in_options(word: &[u8]) -> Option<HintContext>
     ensures { result ≡ row_of spec.in_options word.now }
 {
     row_of(&IN_OPTIONS, word)
@@ -245,7 +245,7 @@ fn text_at(tokens: &[Token], at: usize) -> &[u8]
     token_text(token_at(tokens, at))
 }
 
-fn first_body(far: Option<Body>, near: Option<Body>) -> Option<Body>
+fn first_body(far: Option<BodyKind>, near: Option<BodyKind>) -> Option<BodyKind>
     ensures { result ≡ spec.first_body far near }
 {
     match far {
@@ -255,7 +255,7 @@ fn first_body(far: Option<Body>, near: Option<Body>) -> Option<Body>
 }
 
 /// The body that opens with the token of this place, if one does.
-fn body_at(tokens: &[Token], at: usize, token: &Token) -> Option<Body>
+fn body_at(tokens: &[Token], at: usize, token: &Token) -> Option<BodyKind>
     ensures { result ≡ spec.body_at tokens.now at token.now }
 {
     let near = text_at(tokens, at.saturating_sub(1));
@@ -268,59 +268,59 @@ fn body_at(tokens: &[Token], at: usize, token: &Token) -> Option<Body>
 }
 
 /// What the language has at the beginning of a body's items.
-fn body_context(body: Body) -> Context
+fn body_context(body: BodyKind) -> HintContext
     ensures { result ≡ spec.body_context body }
 {
     match body {
-        Body::Path => Context::Elements,
-        Body::Channels => Context::Channels,
-        Body::Source => Context::Drivers,
-        Body::Destination => Context::Drivers,
-        Body::Filter => Context::Filters,
-        Body::Rewrite => Context::Rewrites,
-        Body::Parser => Context::Parsers,
-        Body::Options => Context::Globals,
-        Body::Template => Context::Templates,
+        BodyKind::Path => HintContext::Elements,
+        BodyKind::Channels => HintContext::Channels,
+        BodyKind::Source => HintContext::Drivers,
+        BodyKind::Destination => HintContext::Drivers,
+        BodyKind::Filter => HintContext::Filters,
+        BodyKind::Rewrite => HintContext::Rewrites,
+        BodyKind::Parser => HintContext::Parsers,
+        BodyKind::Options => HintContext::Globals,
+        BodyKind::Template => HintContext::Templates,
     }
 }
 
 /// What it has in the parentheses of a call in a body.
-fn call_row(body: Body, word: &[u8]) -> Option<Context>
+fn call_row(body: BodyKind, word: &[u8]) -> Option<HintContext>
     ensures { result ≡ spec.call_row body word.now }
 {
     match body {
-        Body::Path => in_path(word),
-        Body::Channels => None,
-        Body::Source => in_source(word),
-        Body::Destination => in_destination(word),
-        Body::Filter => in_filter(word),
-        Body::Rewrite => in_rewrite(word),
-        Body::Parser => in_parser(word),
-        Body::Options => in_options(word),
-        Body::Template => None,
+        BodyKind::Path => in_path(word),
+        BodyKind::Channels => None,
+        BodyKind::Source => in_source(word),
+        BodyKind::Destination => in_destination(word),
+        BodyKind::Filter => in_filter(word),
+        BodyKind::Rewrite => in_rewrite(word),
+        BodyKind::Parser => in_parser(word),
+        BodyKind::Options => in_options(word),
+        BodyKind::Template => None,
     }
 }
 
-fn or_anywhere(context: Option<Context>) -> Context
+fn or_anywhere(context: Option<HintContext>) -> HintContext
     ensures { result ≡ spec.or_anywhere context }
 {
     match context {
         Some(found) => found,
-        None => Context::Anywhere,
+        None => HintContext::Anywhere,
     }
 }
 
-fn call_context(body: Option<Body>, word: &[u8]) -> Context
+fn call_context(body: Option<BodyKind>, word: &[u8]) -> HintContext
     ensures { result ≡ spec.call_context body word.now }
 {
     match body {
         Some(within) => or_anywhere(call_row(within, word)),
-        None => Context::Anywhere,
+        None => HintContext::Anywhere,
     }
 }
 
 /// What is around the tokens behind one that opens, in front of which this word stands.
-fn around_of(begun: Option<Body>, outer: Around, word: &[u8]) -> Around
+fn around_of(begun: Option<BodyKind>, outer: Around, word: &[u8]) -> Around
     ensures { result ≡ spec.around_of begun outer word.now }
 {
     match begun {
@@ -342,7 +342,7 @@ fn or_outermost(around: Option<Around>) -> Around
         Some(around) => around,
         None => Around {
             body: None,
-            context: Context::Statements,
+            context: HintContext::Statements,
         },
     }
 }
@@ -399,7 +399,7 @@ fn front(tokens: &[Token], at: usize) -> &[Token]
 }
 
 /// What the language has at the token of this place.
-pub fn context_of(alloc: Global, tokens: &[Token], at: usize) -> Result<Context, NoMemory>
+pub fn context_of(alloc: Global, tokens: &[Token], at: usize) -> Result<HintContext, NoMemory>
     ensures { IfOk result (λ context. context ≡ spec.context_of tokens.now at) }
 {
     let stack = stack_of(alloc, tokens, front(tokens, at))?;

@@ -2,9 +2,9 @@
 ghost use Rattle.std.specs.Prelude.{◌≡◌, ◌++◌, ◌∷◌, [], ◌<◌, ◌^◌, length, IfOk, OnOk, Some, option_copied, slice_get, Decides};
 ghost use Rattle.sg_hint.specs.Lines.{more};
 ghost use Rattle.sg_hint.specs.Meanings.{name_in, name_of, word_of};
-ghost use Rattle.sg_hint.specs.Listed.{column_at, fault_of, lines_of, listed_column, numbered, IsAgain, IsCompiled, IsFirstWrong, IsInList, IsListed, IsPathFault, IsPathsFirst, IsSpotOf, IsSpotted};
+ghost use Rattle.sg_hint.specs.Listed.{column_at, fault_of, lines_of, listed_column, numbered, IsAgain, IsCompiled, IsFirstWrong, IsInList, IsListed, IsListedPathFault, IsPathsFirst, IsSpotOf, IsSpotted};
 
-use crate::context::{Context, context_of};
+use crate::context::{HintContext, context_of};
 use crate::fitting::fitting_meant;
 use crate::names::{name_meant, token_at};
 use crate::written::Spotted;
@@ -76,7 +76,7 @@ fn fault_of(kind: ConfigKind, line: Line) -> ConfigFault
 
 /// The fault that a refusal of log paths is.
 fn refused_fault(refusal: PathRefusal) -> Result<ConfigFault, NoMemory>
-    ensures { IfOk result (λ fault. IsPathFault refusal fault) }
+    ensures { IfOk result (λ fault. IsListedPathFault refusal fault) }
 {
     match refusal {
         PathRefusal::BadPattern(line) => Ok(fault_of(ConfigKind::BadPattern, line)),
@@ -87,33 +87,50 @@ fn refused_fault(refusal: PathRefusal) -> Result<ConfigFault, NoMemory>
 }
 
 /// Why the log paths of a configuration aren't compiled.
-fn path_refusal(alloc: Global, config: &Config) -> Option<PathRefusal>
+fn path_refusal(alloc: Global, patterns: &mut Patterns, config: &Config) -> Option<PathRefusal>
     ensures { IsCompiled config.now result }
 {
-    let mut patterns = Patterns::new(alloc);
-    compile(alloc, &config.forest, &mut patterns).err()
+    compile(alloc, &config.forest, patterns).err()
 }
 
 /// What is wrong with the log paths of a configuration, if anything is.
-fn path_fault(alloc: Global, config: &Config) -> Result<Option<ConfigFault>, NoMemory>
+fn path_fault(
+    alloc: Global,
+    patterns: &mut Patterns,
+    config: &Config,
+) -> Result<Option<ConfigFault>, NoMemory>
     ensures { IfOk result (λ fault. IsPathsFirst config.now fault) }
 {
-    match path_refusal(alloc, config) {
+    match path_refusal(alloc, patterns, config) {
         Some(refusal) => Ok(Some(refused_fault(refusal)?)),
         None => Ok(None),
     }
 }
 
-/// What is wrong with these tokens first, if anything is.
-pub fn fault_again(alloc: Global, tokens: &[Token]) -> Result<Option<ConfigFault>, NoMemory>
+/// What is wrong with these tokens first, if anything is. Their patterns are made by this builder, which keeps them: asked
+/// again, it makes none twice.
+pub fn fault_again(
+    alloc: Global,
+    patterns: &mut Patterns,
+    tokens: &[Token],
+) -> Result<Option<ConfigFault>, NoMemory>
     requires { length tokens.now < 2 ^ 32 }
     ensures { IfOk result (λ fault. IsFirstWrong tokens.now fault) }
 {
     match load(alloc, tokens) {
-        Ok(config) => path_fault(alloc, &config),
+        Ok(config) => path_fault(alloc, patterns, &config),
         Err(LoadRefusal::Bad(fault)) => Ok(Some(fault)),
         Err(LoadRefusal::NoMemory) => Err(AllocError),
     }
+}
+
+/// The same by a builder that has made no pattern yet.
+fn first_fault(alloc: Global, tokens: &[Token]) -> Result<Option<ConfigFault>, NoMemory>
+    requires { length tokens.now < 2 ^ 32 }
+    ensures { IfOk result (λ fault. IsFirstWrong tokens.now fault) }
+{
+    let mut patterns = Patterns::new(alloc);
+    fault_again(alloc, &mut patterns, tokens)
 }
 
 fn is_kind(kind: ConfigKind, other: ConfigKind) -> bool
@@ -143,7 +160,7 @@ pub fn is_same(fault: &ConfigFault, other: &ConfigFault) -> bool
 }
 
 /// The word of those that fit its place that was meant by the token, if it is a word.
-fn word_of(context: Context, token: Option<&Token>) -> Option<&'static [u8]>
+fn word_of(context: HintContext, token: Option<&Token>) -> Option<&'static [u8]>
     ensures { option_copied result ≡ word_of context (option_copied token.entry) }
 {
     match token {
@@ -159,7 +176,7 @@ fn word_of(context: Context, token: Option<&Token>) -> Option<&'static [u8]>
 /// What was meant by the token of this place.
 fn name_in<'a>(
     kind: ConfigKind,
-    context: Context,
+    context: HintContext,
     tokens: &'a [Token],
     at: usize,
 ) -> Option<&'a [u8]>
@@ -264,7 +281,7 @@ fn token_spot(
         (column_at list.now.tokens.items list.now.lines.items fault.now.line)
         fault.now spotted) }
 {
-    let first = fault_again(alloc, &list.tokens)?;
+    let first = first_fault(alloc, &list.tokens)?;
     match first {
         Some(again) => spot_of(alloc, fault, list, &again),
         None => Ok(None),

@@ -23,7 +23,8 @@ abbrev mutual
 
 abbrev mutual
   pub outlet_cells : HostOutletCell → List OutletState
-  outlet_cells (HostOutletCell' counts before) = outlet_cells_before before ++ outlet_state counts ∷ []
+  outlet_cells (HostOutletCell' counts before) =
+      outlet_cells_before before ++ outlet_state counts ∷ []
 
   pub outlet_cells_before : Held-HostOutletCell-before → List OutletState
   outlet_cells_before NoOutlet = []

@@ -28,7 +28,10 @@ opened_inlet opened = record { spec = opened.spec; state = inlet_state opened.co
 
 -- those opened and those closed
 abbrev pub inlets_of : HostInlets → Ledger InletSpec InletState
-inlets_of inlets = record { opened = map opened_inlet inlets.opened.items; closed = inlet_states inlets.closed }
+inlets_of inlets = record {
+  opened = map opened_inlet inlets.opened.items;
+  closed = inlet_states inlets.closed;
+}
 
 -- it stands at its place, and nothing was given yet
 abbrev pub IsHostOpenedFor : InletSpec → ℕ → InletState → Type 0

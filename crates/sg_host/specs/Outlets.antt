@@ -28,12 +28,16 @@ module _ {T : Type 0} where
 
   -- those opened and those closed
   abbrev pub outlets_of : HostOutlets T → Ledger OutletSpec OutletState
-  outlets_of outlets = record { opened = map opened_outlet outlets.opened.items; closed = outlet_states outlets.closed }
+  outlets_of outlets = record {
+    opened = map opened_outlet outlets.opened.items;
+    closed = outlet_states outlets.closed;
+  }
 
   -- the outlet took nothing yet
   abbrev pub OutletsOpen : HostOutlets T → HostOutlets T → OutletSpec → OutletState → Type 0
   OutletsOpen old new spec drain =
-      LedgerOpens (outlets_of old) (outlets_of new) old.faults new.faults spec drain × IsUnusedOutlet drain
+      LedgerOpens (outlets_of old) (outlets_of new) old.faults new.faults spec drain
+      × IsUnusedOutlet drain
 
   abbrev pub OutletsRefuse : HostOutlets T → HostOutlets T → OpenRefusal → Type 0
   OutletsRefuse old new refusal = LedgerRefuses (outlets_of old) (outlets_of new) old.faults

@@ -19,7 +19,10 @@ opened_paths spec = record { spec = spec; state = new_paths }
 
 -- those opened and those closed
 abbrev pub paths_of : HostPaths → Ledger OutletSpec PathsState
-paths_of paths = record { opened = map opened_paths paths.opened.items; closed = paths_states paths.closed }
+paths_of paths = record {
+  opened = map opened_paths paths.opened.items;
+  closed = paths_states paths.closed;
+}
 
 -- the opener has opened nothing yet
 abbrev pub HostPathsOpen : HostPaths → HostPaths → OutletSpec → PathsState → Type 0

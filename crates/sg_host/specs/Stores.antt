@@ -19,12 +19,17 @@ opened_store spec = record { spec = spec; state = new_disk }
 
 -- those opened and those closed
 abbrev pub stores_of : HostStores → Ledger StoreSpec DiskState
-stores_of stores = record { opened = map opened_store stores.opened.items; closed = store_states stores.closed }
+stores_of stores = record {
+  opened = map opened_store stores.opened.items;
+  closed = store_states stores.closed;
+}
 
 abbrev pub HostStoresOpen : HostStores → HostStores → StoreSpec → DiskState → Type 0
-HostStoresOpen old new spec store = LedgerOpens (stores_of old) (stores_of new) old.faults new.faults
+HostStoresOpen old new spec store =
+    LedgerOpens (stores_of old) (stores_of new) old.faults new.faults
     spec store
 
 abbrev pub HostStoresRefuse : HostStores → HostStores → OpenRefusal → Type 0
-HostStoresRefuse old new refusal = LedgerRefuses (stores_of old) (stores_of new) old.faults new.faults
+HostStoresRefuse old new refusal =
+    LedgerRefuses (stores_of old) (stores_of new) old.faults new.faults
     refusal

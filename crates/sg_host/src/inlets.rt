@@ -177,7 +177,8 @@ impl HostInlets {
     ) -> Result<InletDevice, OpenRefusal>
         ensures lists { inlets_of self.new ≡ inlets_of self.old }
         ensures faults { self.new.faults ≡ self.old.faults }
-        ensures opened { MatchResult result (λ source. IsHostOpenedFor spec.now from (source_of source))
+        ensures opened { MatchResult result
+            (λ source. IsHostOpenedFor spec.now from (source_of source))
             (λ _. Unit {0}) }
     {
         let rest = self.rest.share()?;

@@ -17,7 +17,7 @@ pub use inlets::{HostFeed, HostInlets, HostOpenedInlet, InletDevice};
 pub use marked::MarkedFile;
 pub use outlets::{HostDrain, HostOutlets, RealOutlet};
 pub use paths::{HostOpener, HostPaths, PathCounts};
-pub use sg_file::{FileDisk, IdleWait, read_file};
+pub use sg_file::{FileDisk, IdleWait, moment, read_file};
 pub use stores::{HostStore, HostStores};
 pub use streams::{Streams, say, tell};
 pub use timer::Timer;

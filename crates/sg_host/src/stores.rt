@@ -15,7 +15,7 @@ const FAILED: &str = "it has failed, and is not used until the next start";
 
 /// An open store.
 #[derive(Drop)]
-pub struct OpenedStore {
+pub struct HostOpenedStore {
     disk: FileDisk,
     reservation: Reservation,
     rest: IdleWait,
@@ -26,7 +26,7 @@ pub struct OpenedStore {
 /// An open store, with the memory for its closing.
 #[derive(Drop)]
 pub struct HostStore {
-    opened: OpenedStore,
+    opened: HostOpenedStore,
     cell: Box<HostStoreCell>,
 }
 
@@ -39,7 +39,7 @@ impl HostStore {
     }
 }
 
-impl OpenedStore {
+impl HostOpenedStore {
     // A call has ended so.
     fn note(&mut self, failed: bool)
         ensures { self.new.disk ≡ self.old.disk }
@@ -141,7 +141,7 @@ impl HostStores {
     {
         let reservation = disk.reserve(&self.rest)?;
         let reminder = Reminder::new(alloc, self.rt, "store", spec.name.bytes(), FAILED)?;
-        let opened = OpenedStore {
+        let opened = HostOpenedStore {
             disk,
             reservation,
             rest: self.rest.share()?,
@@ -159,7 +159,7 @@ impl HostStores {
         ensures faults { self.new.faults ≡ self.old.faults }
     {
         let HostStore { opened, cell } = store;
-        let OpenedStore { disk, .. } = opened;
+        let HostOpenedStore { disk, .. } = opened;
         add_store(&mut self.closed, cell, disk.faults());
         disk.close(&self.rt);
         self.rest.end_reminders();

@@ -1,6 +1,6 @@
 -- A history as calls of a core.
 use Rattle.std.proofs.Common.{◌≡◌, List, [], ◌∷◌, Ok, Err, ap, ◌∙◌}
-use Rattle.sg_booth.specs.Rule.{Makes as MakesAll}
+use Rattle.sg_booth.specs.Rule.{MakesOfficeCalls as MakesAll}
 use Rattle.sg_counter.specs.Exchanges.{Makes}
 use Rattle.sg_counter.specs.declared.calls.CoreCall.{CoreCall}
 use Rattle.sg_counter.specs.declared.calls.CoreCall.TheVariants.{Credit, Admit, Front, Settle, Refill, Store}

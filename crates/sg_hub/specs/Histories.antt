@@ -1,6 +1,6 @@
 -- The history of a hub, as calls of a core with their replies.
 use Rattle.std.specs.Prelude.{List, map}
-use Rattle.sg_booth.specs.declared.office.Exchange.{Exchange as Told}
+use Rattle.sg_booth.specs.declared.office.OfficeExchange.{OfficeExchange as Told}
 use Rattle.sg_counter.specs.Exchanges.{Exchange}
 use Rattle.sg_counter.specs.declared.calls.CoreCall.{CoreCall}
 use Rattle.sg_counter.specs.declared.calls.CoreReply.{CoreReply}

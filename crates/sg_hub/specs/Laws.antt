@@ -3,7 +3,7 @@ use Rattle.std.specs.Prelude.{◌≡◌, ℕ, ◌-◌, List, [], ◌∷◌, ◌+
 use mathlib.Core.Option.{some}
 use Rattle.atomic_table.specs.Table.{State as TableState}
 use Rattle.sg_booth.specs.Lists.{StartsWith, entries_at}
-use Rattle.sg_booth.specs.Rule.{IsTableKept, Makes as MakesAll}
+use Rattle.sg_booth.specs.Rule.{IsTableKept, MakesOfficeCalls as MakesAll}
 use Rattle.sg_booth.specs.Desks.{IsDeskOf}
 use Rattle.sg_booth.specs.declared.table.ServedOffice.{ServedOffice}
 use Rattle.sg_booth.specs.declared.table.Notes.{Notes}
@@ -27,13 +27,15 @@ StandsThen history core start events rows = (more : List Event)
 
 -- a history is legal: a core that it gives stands for its events
 abbrev pub HistoriesStand : Type 0
-HistoriesStand = (old new : CoreState) (history : List ToldCall) (start : State) (events : List Event)
+HistoriesStand = (old new : CoreState) (history : List ToldCall) (start : State)
+    (events : List Event)
     → MakesAll Serves old history new → (stood : StandsFor old start events)
     → StandsThen history new start events stood.moments.rows
 
 -- no call changes the setup
 abbrev pub HistoriesKeepSetup : Type 0
-HistoriesKeepSetup = (old new : CoreState) (history : List ToldCall) → MakesAll Serves old history new
+HistoriesKeepSetup = (old new : CoreState) (history : List ToldCall)
+    → MakesAll Serves old history new
     → setup_of new ≡ setup_of old
 
 -- at each moment at which a core lies in the slot of its hub it stands for the events of the history, whose length is the second word
@@ -48,7 +50,8 @@ LiesStanding = (made : CoreState) (turns : ℕ) (s : TableState
 
 -- Calls at a seat, one after another: it stays a seat of its hub, has seen more, and these calls, in order, stand in the history behind
 -- its own calls before.
-pub record SeatGoesOn (hub : HubState) (old : SeatState) (made : List Exchange) (new : SeatState) : Type 0 where
+pub record SeatGoesOn (hub : HubState) (old : SeatState) (made : List Exchange)
+    (new : SeatState) : Type 0 where
   pub of_hub : IsDeskOf hub old → IsDeskOf hub new
   pub left : new.left ≡ old.left - length made
   pub seen : StartsWith new.seen old.seen

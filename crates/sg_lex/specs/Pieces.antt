@@ -25,7 +25,8 @@ lexed_after before (Ok tokens) = Ok (before ++ tokens)
 lexed_after before (Err fault) = Err fault
 
 -- the piece's token stands behind those before, or the piece is none of a text with tokens
-abbrev pub TakesPiece : ℕ → TextPosition → Lexeme → List Token → List Token → Result ℕ LexFault → Type 0
+abbrev pub TakesPiece : ℕ → TextPosition → Lexeme → List Token → List Token → Result ℕ LexFault
+    → Type 0
 TakesPiece file spot found old new (Ok count) = (count ≡ piece_length found)
     × ((rest : Lexed) → lexed_after old (with_piece file spot found rest) ≡ lexed_after new rest)
 TakesPiece file spot found old new (Err (OpenStringAt place)) = (rest : Lexed)

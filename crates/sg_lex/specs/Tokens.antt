@@ -49,11 +49,14 @@ length_before c bytes = position_or_len (λ b. b == c) bytes
 -- `\x` stands for the byte of the hexadecimal digits behind it, two where two stand there, and for `x` where none does
 abbrev pub two_digits : ℕ → List ℕ → Escape
 two_digits first [] = record { byte = first; count = 2 }
-two_digits first (d ∷ bytes) = if is_digit d 16 then (record { byte = first * 16 + digit_value d; count = 3 }) else (record { byte = first; count = 2 })
+two_digits first (d ∷ bytes) = if is_digit d 16
+    then (record { byte = first * 16 + digit_value d; count = 3 })
+    else (record { byte = first; count = 2 })
 
 abbrev pub hexadecimal : List ℕ → Escape
 hexadecimal [] = record { byte = 120; count = 1 }
-hexadecimal (d ∷ bytes) = if is_digit d 16 then two_digits (digit_value d) bytes else (record { byte = 120; count = 1 })
+hexadecimal (d ∷ bytes) = if is_digit d 16 then two_digits (digit_value d) bytes
+    else (record { byte = 120; count = 1 })
 
 -- `\n`, `\r`, `\t`, `\a`, `\v` stand for LF, CR, tab and the bytes 7 and 11, and another byte for itself
 abbrev pub escaped_letter : ℕ → ℕ
@@ -67,7 +70,8 @@ escaped_letter b =
 
 abbrev pub escape : List ℕ → Escape
 escape [] = record { byte = 92; count = 0 }
-escape (b ∷ bytes) = if b == 120 then hexadecimal bytes else (record { byte = escaped_letter b; count = 1 })
+escape (b ∷ bytes) = if b == 120 then hexadecimal bytes
+    else (record { byte = escaped_letter b; count = 1 })
 
 -- the same behind one byte of content that so many bytes spell, and behind bytes that are spelled already
 abbrev pub quoted_behind : ℕ → ℕ → Quoted → Quoted
@@ -82,14 +86,16 @@ double_quoted skip [] = None
 double_quoted (suc skip) (b ∷ bytes) = option_map quoted_later (double_quoted skip bytes)
 double_quoted zero (b ∷ bytes) =
     if b == 34 then Some (record { text = []; count = 1 })
-    else (if b == 92 then option_map (quoted_behind (escape bytes).byte 1) (double_quoted (escape bytes).count bytes)
+    else (if b == 92 then option_map (quoted_behind (escape bytes).byte 1)
+    (double_quoted (escape bytes).count bytes)
     else option_map (quoted_behind b 1) (double_quoted zero bytes))
 
 -- the string in single quotes, behind its first quote
 abbrev pub single_quoted : List ℕ → Option Quoted
 single_quoted bytes =
     let count = length_before 39 bytes in
-    if nat_lt count (length bytes) then Some (record { text = take count bytes; count = count + 1 }) else None
+    if nat_lt count (length bytes) then Some (record { text = take count bytes; count = count + 1 })
+    else None
 
 abbrev pub string : Option Quoted → Lexeme
 string None = OpenString
@@ -102,7 +108,8 @@ directive count bytes = if count == 0 then BadByte else Spelled At (take count b
 -- a name of so many bytes between backticks
 abbrev pub variable : ℕ → List ℕ → Lexeme
 variable count bytes =
-    if not (count == 0) && begins_with 96 (drop count bytes) then Spelled Tick (take count bytes) (2 + count) else BadByte
+    if not (count == 0) && begins_with 96 (drop count bytes)
+    then Spelled Tick (take count bytes) (2 + count) else BadByte
 
 -- one of `{` `}` `(` `)` `;` `,` `:`
 abbrev pub is_symbol : ℕ → Bool
@@ -134,7 +141,8 @@ mark b bytes =
 abbrev pub piece : ℕ → List ℕ → Lexeme
 piece before [] = BadByte
 piece before (b ∷ bytes) =
-    if is_word_at before b bytes then Spelled Word (take (word_length before (b ∷ bytes)) (b ∷ bytes)) (word_length before (b ∷ bytes))
+    if is_word_at before b bytes then Spelled Word
+    (take (word_length before (b ∷ bytes)) (b ∷ bytes)) (word_length before (b ∷ bytes))
     else mark b bytes
 
 abbrev pub piece_length : Lexeme → ℕ
@@ -149,11 +157,22 @@ first_spot = record { place = 0; line = 1; column = 1; before = 10 }
 -- the place behind a byte: LF ends a line
 abbrev pub spot_behind : TextPosition → ℕ → TextPosition
 spot_behind spot b =
-    if b == 10 then (record { place = spot.place + 1; line = spot.line + 1; column = 1; before = b })
+    if b == 10 then (record {
+      place = spot.place + 1;
+      line = spot.line + 1;
+      column = 1;
+      before = b;
+    })
     else (record { place = spot.place + 1; line = spot.line; column = spot.column + 1; before = b })
 
 abbrev pub token : ℕ → TextPosition → TokenKind → List ℕ → Token
-token file spot kind text = record { kind = kind; file = file; line = spot.line; column = spot.column; text = text }
+token file spot kind text = record {
+  kind = kind;
+  file = file;
+  line = spot.line;
+  column = spot.column;
+  text = text;
+}
 
 abbrev pub Lexed : Type 0
 Lexed = Result (List Token) LexFault

@@ -1,5 +1,5 @@
 -- Changes of an item of a list, and look-ups.
-use Rattle.std.proofs.Common.{◌≡◌, ◌≢◌, ℕ, ◌+◌, ◌<◌, ◌≤◌, List, [], ◌∷◌, length, get_or, set, drop, Some, None, refl, ap, arith, suc, zero, add-one, Bool, true, false, slice_get, map, ◌++◌, inl, inr, sym, ◌⊎◌}
+use Rattle.std.proofs.Common.{◌≡◌, ◌≢◌, ℕ, ◌+◌, ◌<◌, ◌≤◌, List, [], ◌∷◌, length, get_or, set, drop, Some, None, refl, ap, arith, suc, zero, add-one, Bool, true, false, slice_get, map, ◌++◌, inl, inr, sym, ◌⊎◌, drop-cons}
 use Rattle.std.proofs.lemmas.List.{drop_all}
 use Rattle.sg_list.specs.Lists.{change, passes_at}
 
@@ -113,3 +113,7 @@ pub map-kept : {A B : Type 0} (g : A → B) (f : A → A) (xs : List A) (k : ℕ
 map-kept g f [] k h = refl
 map-kept g f (x ∷ xs) zero h = ap (λ y. y ∷ map g xs) (h x)
 map-kept g f (x ∷ xs) (suc k) h = ap (λ ys. g x ∷ ys) (map-kept g f xs k h)
+
+-- a text from one byte on
+pub from_here : (text : List ℕ) (place b : ℕ) → place < length text → get_or text place 0 ≡ b → drop place text ≡ b ∷ drop (place + 1) text
+from_here text place b h e = rw (add-one, ← e) (drop-cons text place 0 h)

@@ -10,7 +10,7 @@ mod statements;
 mod writing;
 
 pub use context::{caller_of, closes, opening_before, opens, token_at};
-pub use nesting::Around;
+pub use nesting::{OpenBrackets, object_at};
 pub use reading::{Listing, Location, read_listing};
 pub use rows::{has_word, told_of};
 pub use statements::{Span, is_same_name, name_of, spans};

@@ -15,13 +15,13 @@ const DEPTH: usize = 128;
 
 /// The places of the parentheses and braces that are open.
 #[derive(Drop)]
-pub struct Around {
+pub struct OpenBrackets {
     opened: Vec<usize>,
 }
 
-impl Around {
-    pub fn new(alloc: Global) -> Around {
-        Around {
+impl OpenBrackets {
+    pub fn new(alloc: Global) -> OpenBrackets {
+        OpenBrackets {
             opened: Vec::new(alloc),
         }
     }
@@ -87,8 +87,8 @@ fn object_word(tokens: &[Token], at: Option<usize>) -> Option<&[u8]> {
     None
 }
 
-// The kind of what the brace of this place begins.
-fn object_at(tokens: &[Token], opening: usize) -> Option<&[u8]> {
+/// The kind of what the brace of this place begins.
+pub fn object_at(tokens: &[Token], opening: usize) -> Option<&[u8]> {
     if !is_symbol(tokens.get(opening)?, b'{') {
         return None;
     }

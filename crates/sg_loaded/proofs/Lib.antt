@@ -1,3 +1,3 @@
-mod Loads
+pub mod Loads
 mod Refusing
 pub mod Complete

@@ -95,3 +95,10 @@ built-loads old new tokens names config (Ok loaded) means (same, compiles) =
 built-loads old new tokens names config (Err (Bad fault files)) means (same, wrong) = (same, inr (config, means, wrong))
 built-loads old new tokens names config (Err (Unread name)) means wrong = absurd wrong
 built-loads old new tokens names config (Err NoMemory) means wrong = tt
+
+-- a configuration is loaded as well where files were read again behind it
+pub loads-read : (old loaded new : WorldState) → OnlyLoads old loaded → OnlyReads loaded new → OnlyLoads old new
+loads-read old loaded new loads reads =
+    let (is, read, build) = loads in
+    let (same, more) = reads in
+    (grind arith, grind arith, grind arith)

@@ -35,14 +35,16 @@ pub record IsConfigured (world : WorldState) (file : List ℕ) (loaded : Loaded)
   pub compiles : Compiles loaded.config loaded.table
 
 -- the file is expanded to tokens that mean no configuration
-pub record IsMeaningless (world : WorldState) (file : List ℕ) (fault : ConfigFault) (names : List (List ℕ)) : Type 0 where
+pub record IsMeaningless (world : WorldState) (file : List ℕ) (fault : ConfigFault)
+    (names : List (List ℕ)) : Type 0 where
   pub tokens : List Token
   pub read : WorldState
   pub expands : Expands world file tokens names read
   pub is : IsFaultOfTokens tokens fault
 
 -- it is expanded to a configuration whose log paths are refused, as the machine comes to be
-pub record IsLoadRefused (world new : WorldState) (file : List ℕ) (fault : ConfigFault) (names : List (List ℕ)) : Type 0 where
+pub record IsLoadRefused (world new : WorldState) (file : List ℕ) (fault : ConfigFault)
+    (names : List (List ℕ)) : Type 0 where
   pub tokens : List Token
   pub read : WorldState
   pub config : Config

@@ -14,7 +14,8 @@ FileComesTo world file outcome = (text : List ℕ) × (IsContent world.files fil
     × ((start : WorldState) × (OnlyReads world start × RunsMain file text start outcome)))
 
 -- it is expanded to these tokens, of files of these names; then the machine is this one, of which nothing but readings was asked
-pub record Expands (world : WorldState) (file : List ℕ) (tokens : List Token) (names : List (List ℕ)) (read : WorldState) : Type 0 where
+pub record Expands (world : WorldState) (file : List ℕ) (tokens : List Token)
+    (names : List (List ℕ)) (read : WorldState) : Type 0 where
   pub last : ExpansionState
   pub comes : FileComesTo world file (Goes last read)
   pub out : tokens ≡ last.out

@@ -10,7 +10,7 @@ use Rattle.sg_names.specs.declared.names.Names.{Names}
 use Rattle.sg_names.specs.Registers.{place_in}
 use Rattle.sg_options.specs.Settings.{args_of, item_of, first_item, is_called}
 use Rattle.sg_options.specs.Values.{text_of}
-use Rattle.sg_lower.specs.declared.range.Scale.TheVariants.{Facility, Level}
+use Rattle.sg_lower.specs.declared.range.PriorityScale.TheVariants.{Facility, Level}
 use Rattle.sg_lower.specs.Values.{text_if, value_name}
 use Rattle.sg_lower.specs.Ranges.{ranges_in}
 use Rattle.sg_lower.specs.Patterns.{pattern_of}
@@ -39,8 +39,11 @@ named names args = named_if (place_in names Filter (text_of (first_item args)))
 
 unfoldable pub filter_expr : Names → Call → Expr
 filter_expr names call =
-    if is_called (codes "facility" ∷ []) call then x.Facility (flat_map (ranges_in Facility) (args_of call))
-    else (if is_called (codes "level" ∷ codes "severity" ∷ codes "priority" ∷ []) call then x.Level (flat_map (ranges_in Level) (args_of call))
-    else (if is_called (codes "tags" ∷ []) call then x.Tags (flat_map (λ arg. text_if (item_of arg)) (args_of call))
+    if is_called (codes "facility" ∷ []) call
+    then x.Facility (flat_map (ranges_in Facility) (args_of call))
+    else (if is_called (codes "level" ∷ codes "severity" ∷ codes "priority" ∷ []) call
+    then x.Level (flat_map (ranges_in Level) (args_of call))
+    else (if is_called (codes "tags" ∷ []) call
+    then x.Tags (flat_map (λ arg. text_if (item_of arg)) (args_of call))
     else (if is_called (codes "filter" ∷ []) call then named names (args_of call)
     else field_expr call)))

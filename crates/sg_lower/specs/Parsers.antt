@@ -4,9 +4,9 @@ use Rattle.std.specs.List.{flat_map}
 use Rattle.sg_macro.specs.declared.part.TemplatePart.{TemplatePart}
 use Rattle.sg_parse_expr.specs.declared.tree.Arg.{Arg}
 use Rattle.sg_parse_expr.specs.declared.tree.Call.{Call}
-use Rattle.sg_parsers.specs.declared.parser.Parser.{Parser}
+use Rattle.sg_parsers.specs.declared.parser.MessageParser.{MessageParser}
 use Rattle.sg_parsers.specs.declared.csv.Csv.{Csv}
-use Rattle.sg_parsers.specs.declared.parser.Parser.TheVariants as parser
+use Rattle.sg_parsers.specs.declared.parser.MessageParser.TheVariants as parser
 use Rattle.sg_parsers.specs.declared.rule.ParserRule.{ParserRule}
 use Rattle.sg_parsers.specs.Csv.{prefixed, if_names}
 use Rattle.sg_options.specs.Settings.{args_of, item_of, is_called, calls_of, last_option, last_value, has_flag}
@@ -37,17 +37,17 @@ csv_of args = record {
   drop_invalid = flag_of (codes "drop-invalid") args;
 }
 
-abbrev pub csv_by : List Arg → Option Parser
+abbrev pub csv_by : List Arg → Option MessageParser
 csv_by args = option_map parser.Csv (if_names (csv_of args))
 
-abbrev pub kv_by : List Arg → Parser
+abbrev pub kv_by : List Arg → MessageParser
 kv_by args = parser.Kv (record {
   prefix = option_text (codes "prefix") args [];
   pair_separator = option_text (codes "pair-separator") args (codes ", ");
   value_separator = slice_index_or (option_text (codes "value-separator") args (codes "=")) 0 61;
 })
 
-abbrev pub parser_by : Call → Option Parser
+abbrev pub parser_by : Call → Option MessageParser
 parser_by call =
     if is_called (codes "csv-parser" ∷ []) call then csv_by (args_of call)
     else Some (kv_by (args_of call))
@@ -56,7 +56,7 @@ parser_by call =
 abbrev pub parsed_text : Call → List TemplatePart
 parsed_text call = template_of (option_text (codes "template") (args_of call) (codes "$MESSAGE"))
 
-abbrev pub rule_with : Call → Parser → ParserRule
+abbrev pub rule_with : Call → MessageParser → ParserRule
 rule_with call parser = record { text = parsed_text call; parser = parser }
 
 -- none where a column's name is none that a pair may have, and so is refused

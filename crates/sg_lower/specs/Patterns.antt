@@ -41,4 +41,9 @@ line_at None = record { file = 0; line = 0; at = 0 }
 line_at (Some spot) = spot_line spot
 
 unfoldable pub pattern_of : Option Spot → List Arg → PatternText
-pattern_of text args = record { kind = kind_of args; text = name_of text; flags = flags_of args; line = line_at text }
+pattern_of text args = record {
+  kind = kind_of args;
+  text = name_of text;
+  flags = flags_of args;
+  line = line_at text;
+}

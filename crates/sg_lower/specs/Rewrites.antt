@@ -57,17 +57,22 @@ globs_in args = globs_behind (last_option (codes "values" ∷ []) (calls_of args
 
 abbrev pub single_by : Call → Meant
 single_by call =
-    if is_called (codes "set" ∷ []) call then set (value_name (args_of call)) (first_template (args_of call))
+    if is_called (codes "set" ∷ []) call
+    then set (value_name (args_of call)) (first_template (args_of call))
     else (if is_called (codes "unset" ∷ []) call then unset (value_name (args_of call))
-    else subst_by (value_name (args_of call)) (pattern_of (first_item (args_of call)) (args_of call)) (second_template (args_of call)))
+    else subst_by (value_name (args_of call))
+    (pattern_of (first_item (args_of call)) (args_of call)) (second_template (args_of call)))
 
 abbrev pub group_by : Call → Meant
 group_by call =
-    if is_called (codes "groupset" ∷ []) call then group_set (globs_in (args_of call)) (first_template (args_of call))
+    if is_called (codes "groupset" ∷ []) call
+    then group_set (globs_in (args_of call)) (first_template (args_of call))
     else group_unset (globs_in (args_of call))
 
 abbrev pub tag_by : Call → Meant
-tag_by call = if is_called (codes "set-tag" ∷ []) call then set_tag (name_of (first_item (args_of call))) else clear_tag (name_of (first_item (args_of call)))
+tag_by call = if is_called (codes "set-tag" ∷ []) call
+    then set_tag (name_of (first_item (args_of call)))
+    else clear_tag (name_of (first_item (args_of call)))
 
 unfoldable pub meant_by : Call → Meant
 meant_by call =
@@ -92,4 +97,5 @@ test_behind (Some call) = first_test (args_of call)
 
 -- the expression of the last `condition`
 abbrev pub condition : Names → List Arg → Option Expr
-condition names args = option_map (expression names) (test_behind (last_option (codes "condition" ∷ []) (calls_of args)))
+condition names args = option_map (expression names)
+    (test_behind (last_option (codes "condition" ∷ []) (calls_of args)))

@@ -5,7 +5,7 @@ ghost use Rattle.sg_options.specs.Settings.{first_item};
 ghost use Rattle.sg_lower.specs.Filters.{field, field_name, field_expr, named, filter_expr};
 
 use crate::pattern::pattern_of;
-use crate::range::{Scale, ranges_of};
+use crate::range::{PriorityScale, ranges_of};
 use crate::value::{texts_of, value_name};
 use sg_device::{Name, NoMemory};
 use sg_filter::Expr;
@@ -51,11 +51,11 @@ pub fn filter_expr(alloc: Global, names: &Names, call: &Call) -> Result<Expr, No
     ensures { IfOk result (λ expr. expr ≡ filter_expr names.now call.now) }
 {
     if is_called(&[b"facility"], call) {
-        let ranges = ranges_of(alloc, Scale::Facility, args_of(call))?;
+        let ranges = ranges_of(alloc, PriorityScale::Facility, args_of(call))?;
         return Ok(Expr::Facility(ranges));
     }
     if is_called(&[b"level", b"severity", b"priority"], call) {
-        let ranges = ranges_of(alloc, Scale::Level, args_of(call))?;
+        let ranges = ranges_of(alloc, PriorityScale::Level, args_of(call))?;
         return Ok(Expr::Level(ranges));
     }
     if is_called(&[b"tags"], call) {

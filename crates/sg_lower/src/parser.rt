@@ -9,7 +9,7 @@ use crate::value::template_of;
 use sg_device::{Name, NoMemory};
 use sg_options::{args_of, has_flag, is_called, last_argument, last_argument_value, text_or};
 use sg_parse_expr::{Arg, Call};
-use sg_parsers::{Csv, Kv, Parser, ParserRule};
+use sg_parsers::{Csv, Kv, MessageParser, ParserRule};
 use std::alloc::Global;
 
 // The names in the last `columns`.
@@ -29,7 +29,7 @@ fn option_text<'a>(word: &[u8], args: &'a [Arg], default: &'a [u8]) -> &'a [u8]
     text_or(last_argument_value(&[word], args), default)
 }
 
-fn lower_csv(alloc: Global, args: &[Arg]) -> Result<Option<Parser>, NoMemory>
+fn lower_csv(alloc: Global, args: &[Arg]) -> Result<Option<MessageParser>, NoMemory>
     ensures { IfOk result (λ parser. parser ≡ csv_by args.now) }
 {
     let columns = columns_in(alloc, args)?;
@@ -39,7 +39,7 @@ fn lower_csv(alloc: Global, args: &[Arg]) -> Result<Option<Parser>, NoMemory>
     let greedy = has_flag(b"greedy", flags);
     let drop_invalid = has_flag(b"drop-invalid", flags);
     match Csv::new(alloc, prefix, &columns, delimiters, greedy, drop_invalid)? {
-        Some(csv) => Ok(Some(Parser::Csv(csv))),
+        Some(csv) => Ok(Some(MessageParser::Csv(csv))),
         None => Ok(None),
     }
 }
@@ -53,17 +53,17 @@ fn first_or(text: &[u8], default: u8) -> u8
     }
 }
 
-fn lower_kv(alloc: Global, args: &[Arg]) -> Result<Parser, NoMemory>
+fn lower_kv(alloc: Global, args: &[Arg]) -> Result<MessageParser, NoMemory>
     ensures { IfOk result (λ parser. parser ≡ kv_by args.now) }
 {
-    Ok(Parser::Kv(Kv {
+    Ok(MessageParser::Kv(Kv {
         prefix: Name::new(alloc, option_text(b"prefix", args, b""))?,
         pair_separator: Name::new(alloc, option_text(b"pair-separator", args, b", "))?,
         value_separator: first_or(option_text(b"value-separator", args, b"="), b'='),
     }))
 }
 
-fn lower_kind(alloc: Global, call: &Call) -> Result<Option<Parser>, NoMemory>
+fn lower_kind(alloc: Global, call: &Call) -> Result<Option<MessageParser>, NoMemory>
     ensures { IfOk result (λ parser. parser ≡ parser_by call.now) }
 {
     if is_called(&[b"csv-parser"], call) {

@@ -11,7 +11,7 @@ use std::alloc::Global;
 
 /// What numbers are of.
 #[derive(Clone, Copy, Drop)]
-pub enum Scale {
+pub enum PriorityScale {
     Facility,
     /// A severity.
     Level,
@@ -26,12 +26,12 @@ fn found(number: Option<u8>) -> u8
     }
 }
 
-fn number_of(scale: Scale, text: &[u8]) -> u8
+fn number_of(scale: PriorityScale, text: &[u8]) -> u8
     ensures { result ≡ number_of scale text.now }
 {
     match scale {
-        Scale::Facility => found(facility_number(text)),
-        Scale::Level => found(level_number(text)),
+        PriorityScale::Facility => found(facility_number(text)),
+        PriorityScale::Level => found(level_number(text)),
     }
 }
 
@@ -42,7 +42,7 @@ fn range_of(one: u8, other: u8) -> (u8, u8)
 }
 
 #[tactic(auto, unfolding(crate::specs::Ranges::ranges_in))]
-fn push_range(scale: Scale, arg: &Arg, ranges: &mut Items<(u8, u8)>) -> Result<(), NoMemory>
+fn push_range(scale: PriorityScale, arg: &Arg, ranges: &mut Items<(u8, u8)>) -> Result<(), NoMemory>
     ensures { OnOk result (ranges.new ≡ ranges.old ++ ranges_in scale arg.now) }
 {
     match arg {
@@ -62,7 +62,11 @@ fn push_range(scale: Scale, arg: &Arg, ranges: &mut Items<(u8, u8)>) -> Result<(
 }
 
 /// The ranges of numbers that arguments say.
-pub fn ranges_of(alloc: Global, scale: Scale, args: &[Arg]) -> Result<Items<(u8, u8)>, NoMemory>
+pub fn ranges_of(
+    alloc: Global,
+    scale: PriorityScale,
+    args: &[Arg],
+) -> Result<Items<(u8, u8)>, NoMemory>
     ensures { IfOk result (λ ranges. ranges ≡ flat_map (ranges_in scale) args.now) }
 {
     let mut ranges = Items::new(alloc);

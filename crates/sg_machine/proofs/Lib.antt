@@ -20,3 +20,4 @@ pub mod RecordLemmas
 pub mod StepLemmas
 pub mod ReplayLemmas
 pub mod AckLemmas
+pub mod BufferLemmas

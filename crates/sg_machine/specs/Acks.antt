@@ -63,7 +63,8 @@ owes_none i n start events d dest =
     not (any_owing i n
     (drop gone
     (map claimed_by (dest.settled ++ dest.left) ++ claimed_from (next_of start) d events))
-    (drop gone (spooled_marks d (length dest.settled) (map is_spooled (dest.settled ++ dest.left)) events)))
+    (drop gone (spooled_marks d (length dest.settled) (map is_spooled (dest.settled ++ dest.left))
+    events)))
 
 -- at all these destinations, which have the numbers from d on
 abbrev pub all_acked : ℕ → ℕ → State → List Event → ℕ → List Dest → Bool
@@ -79,15 +80,18 @@ is_acked_by start events i n = all_acked i n start events 0 start.dests
 -- prefix of acknowledged ones
 abbrev pub outstanding_by : (ℕ → Bool) → ℕ → List ℕ → ℕ
 outstanding_by acked number [] = 0
-outstanding_by acked number (end ∷ ends) = if acked number then outstanding_by acked (number + 1) ends else length (end ∷ ends)
+outstanding_by acked number (end ∷ ends) =
+    if acked number then outstanding_by acked (number + 1) ends else length (end ∷ ends)
 
 -- the end of the last record of that prefix, `from` where there is none
 abbrev pub marked_by : (ℕ → Bool) → ℕ → ℕ → List ℕ → ℕ
 marked_by acked number from [] = from
-marked_by acked number from (end ∷ ends) = if acked number then marked_by acked (number + 1) end ends else from
+marked_by acked number from (end ∷ ends) =
+    if acked number then marked_by acked (number + 1) end ends else from
 
 -- an inlet before and after events, which read this of it
-pub record CountsMark (start : State) (old new : InletRecords) (i : ℕ) (events : List Event) : Type 0 where
+pub record CountsMark (start : State) (old new : InletRecords) (i : ℕ)
+    (events : List Event) : Type 0 where
   pub mark : mark_of (after_all start events).dests i new ≡ marked_by (is_acked_by start events i) 0
       (opening_from i old.opening events) (old.ends ++ ends_admitted i events)
   pub outstanding : outstanding_of (after_all start events).dests i new

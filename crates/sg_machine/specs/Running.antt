@@ -22,7 +22,8 @@ owed (dest ∷ dests) i n = count_by (is_owed_to i n) dest.left + owed dests i n
 -- the records of an inlet from this number on, each with what it needs
 abbrev pub records_from : List Dest → ℕ → ℕ → List ℕ → List BegunRecord
 records_from dests i n [] = []
-records_from dests i n (end ∷ ends) = record { end = end; left = owed dests i n } ∷ records_from dests i (n + 1) ends
+records_from dests i n (end ∷ ends) =
+    record { end = end; left = owed dests i n } ∷ records_from dests i (n + 1) ends
 
 -- how many stand in the longest prefix of acknowledged ones
 abbrev pub acked_in : List BegunRecord → ℕ
@@ -63,7 +64,11 @@ dest_run dest = record {
 }
 
 abbrev pub run_of : State → Run
-run_of state = record { sources = source_runs state.dests 0 state.inlets; dests = map dest_run state.dests; failed = state.failed }
+run_of state = record {
+  sources = source_runs state.dests 0 state.inlets;
+  dests = map dest_run state.dests;
+  failed = state.failed;
+}
 
 -- What holds of each state that legal events come to.
 

@@ -39,7 +39,8 @@ first_of (Some x) second = Some x
 -- no record was admitted before
 abbrev pub failing_position : State → Event → ℕ → InletRecords → Option ℕ
 failing_position state event i inlet =
-    if has_failed event.failed inlet.setup.store then Some (if is_nil inlet.ends then 0 else mark_of state.dests i inlet) else None
+    if has_failed event.failed inlet.setup.store
+    then Some (if is_nil inlet.ends then 0 else mark_of state.dests i inlet) else None
 
 -- the same of the first such event
 abbrev pub failed_position : State → List Event → ℕ → Option ℕ
@@ -68,7 +69,8 @@ abbrev pub spooled_offers : ℕ → ℕ → List Claim → List Verdict → List
 spooled_offers d i [] vs = []
 spooled_offers d i (c ∷ cs) [] = []
 spooled_offers d i (c ∷ cs) (v ∷ vs) =
-    if c.offer.dest == d && same_verdict Spooled v then kept_from i c ∷ spooled_offers d i cs vs else spooled_offers d i cs vs
+    if c.offer.dest == d && same_verdict Spooled v then kept_from i c ∷ spooled_offers d i cs vs
+    else spooled_offers d i cs vs
 
 -- the entries that wait, in order
 abbrev pub waiting : List DestEntry → List BufferedEntry
@@ -101,7 +103,8 @@ tried_by state Look d dest = waiting dest.left
 tried_by state _ d dest = []
 
 abbrev pub failing_entries : State → Event → ℕ → Dest → Option (List BufferedEntry)
-failing_entries state event d dest = if has_failed event.failed (store_of dest) then Some (tried_by state event.act d dest) else None
+failing_entries state event d dest =
+    if has_failed event.failed (store_of dest) then Some (tried_by state event.act d dest) else None
 
 -- the same of the first event in which the store of d fails
 abbrev pub failed_append : State → List Event → ℕ → Option (List BufferedEntry)
@@ -130,7 +133,8 @@ is_settle _ d = false
 -- The list is Spooled(d) less its first entries, and behind them the first of what the act appends, or
 -- of what the append that failed tried to. Those taken away are settled, and they are all the settled
 -- ones where the store works and no Settle(d, n) is on.
-pub record IsSafeList (dest : Dest) (d : ℕ) (act : Act) (failed : List ℕ) (tried : List BufferedEntry) (list : List BufferedEntry) : Type 0 where
+pub record IsSafeList (dest : Dest) (d : ℕ) (act : Act) (failed : List ℕ)
+    (tried : List BufferedEntry) (list : List BufferedEntry) : Type 0 where
   pub gone : ℕ
   pub added : ℕ
   pub parts : list ≡ drop gone (spooled_of (dest.settled ++ dest.left))
@@ -162,14 +166,16 @@ held_in list dest = if is_some dest.setup.buffer then list else []
 
 -- The images are of these stores: an inlet's has its stored position, the one that the act is
 -- writing or one that failed, and a disk-buffer's is a safe list.
-pub record AreSafeImages (state : State) (event : Event) (tried_positions : ℕ → Option ℕ) (tried_entries : ℕ → List BufferedEntry) (images : Images) : Type 0 where
+pub record AreSafeImages (state : State) (event : Event) (tried_positions : ℕ → Option ℕ)
+    (tried_entries : ℕ → List BufferedEntry) (images : Images) : Type 0 where
   pub every_position : length images.positions ≡ length state.inlets
   pub every_list : length images.lists ≡ length state.dests
   pub stored : (i : ℕ) (inlet : InletRecords) (position : ℕ) → slice_get state.inlets i ≡ Some inlet
       → is_some inlet.setup.store ≡ true → slice_get images.positions i ≡ Some position
       → is_listed position (inlet.stored ∷ option_to_list (running_position event.act i)
       ++ option_to_list (tried_positions i)) ≡ true
-  pub safe_lists : (d : ℕ) (dest : Dest) (list : List BufferedEntry) → slice_get state.dests d ≡ Some dest
+  pub safe_lists : (d : ℕ) (dest : Dest) (list : List BufferedEntry)
+      → slice_get state.dests d ≡ Some dest
       → is_some dest.setup.buffer ≡ true → slice_get images.lists d ≡ Some list
       → IsSafeList dest d event.act (state.failed ++ event.failed) (tried_entries d) list
 
@@ -191,7 +197,8 @@ ImagesAt start events event images =
     (failed_entries start (events ++ event ∷ [])) images
 
 -- they are safe
-pub record Safe (start : State) (events : List Event) (event : Event) (images : Images) : Type 0 where
+pub record Safe (start : State) (events : List Event) (event : Event)
+    (images : Images) : Type 0 where
   pub images_at : ImagesAt start events event images
   pub covers : CoversRecords (after_all start events) event images
 

@@ -22,11 +22,15 @@ if_failed failed run = if is_same_list failed run.failed then Some run else None
 
 abbrev pub admit_step : ℕ → List Admission → List Verdict → List ℕ → Run → Option Run
 admit_step i records verdicts failed run =
-    if passes_at run.sources i (may_admit_run records) then option_and_then (if_failed (run.failed ++ failed)) (record_turns i failed run records verdicts) else None
+    if passes_at run.sources i (may_admit_run records)
+    then option_and_then (if_failed (run.failed ++ failed))
+    (record_turns i failed run records verdicts) else None
 
 abbrev pub settle_step : ℕ → ℕ → List ℕ → Run → Option Run
 settle_step d n failed run =
-    if passes_at run.dests d (λ dest. may_settle_run n dest && at_most_this run.failed (store_number dest) failed) then Some (with_failed failed (settle_turns n d run)) else None
+    if passes_at run.dests d (λ dest. may_settle_run n dest
+    && at_most_this run.failed (store_number dest) failed)
+    then Some (with_failed failed (settle_turns n d run)) else None
 
 -- the entries are moved into this disk-buffer
 abbrev pub refill_into : ℕ → ℕ → Run → Option BufferSetup → Option Run
@@ -35,18 +39,21 @@ refill_into d n run buffer = option_and_then (λ (b : BufferSetup). move_turns n
 
 abbrev pub refill_at : ℕ → ℕ → List ℕ → Run → DestRun → Option Run
 refill_at d n failed run dest =
-    if works run.failed (store_number dest) && nat_lt 0 n && nat_le n 1000 && is_nil failed then refill_into d n run dest.setup.buffer else None
+    if works run.failed (store_number dest) && nat_lt 0 n && nat_le n 1000 && is_nil failed
+    then refill_into d n run dest.setup.buffer else None
 
 abbrev pub refill_step : ℕ → ℕ → List ℕ → Run → Option Run
 refill_step d n failed run = option_and_then (refill_at d n failed run) (slice_get run.dests d)
 
 abbrev pub store_step : ℕ → ℕ → List ℕ → Run → Option Run
 store_step i w failed run =
-    if passes_at run.sources i (may_store_run run.failed w) && is_nil failed then Some (record run { sources = change run.sources i (stored_run w) }) else None
+    if passes_at run.sources i (may_store_run run.failed w) && is_nil failed
+    then Some (record run { sources = change run.sources i (stored_run w) }) else None
 
 abbrev pub rewind_step : ℕ → List ℕ → Run → Option Run
 rewind_step i failed run =
-    if passes_at run.sources i (may_rewind_run run.failed) && is_nil failed then Some (record run { sources = change run.sources i rewound_run }) else None
+    if passes_at run.sources i (may_rewind_run run.failed) && is_nil failed
+    then Some (record run { sources = change run.sources i rewound_run }) else None
 
 abbrev pub look_step : List ℕ → Run → Option Run
 look_step failed run = if fails_one_run run failed then Some (with_failed failed run) else None

@@ -21,7 +21,10 @@ use Rattle.sg_machine.specs.Running.{acked_in}
 
 -- with the records counted that have been acknowledged since
 abbrev pub trimmed : SourceRun → SourceRun
-trimmed source = record source { acked = source.acked + acked_in (drop source.acked source.records); mark = mark_from source.mark (drop source.acked source.records) }
+trimmed source = record source {
+  acked = source.acked + acked_in (drop source.acked source.records);
+  mark = mark_from source.mark (drop source.acked source.records);
+}
 
 -- one acknowledgement less is needed by the record of that number
 abbrev pub acked_one : ℕ → SourceRun → SourceRun
@@ -33,7 +36,9 @@ begun_one end left source = trimmed
 
 -- an entry that its record waited for is settled or spooled
 abbrev pub acks : Slip → List SourceRun → List SourceRun
-acks slip sources = if slip.flow then option_map_or (λ n. change sources slip.inlet (acked_one n)) slip.number sources else sources
+acks slip sources = if slip.flow
+    then option_map_or (λ n. change sources slip.inlet (acked_one n)) slip.number sources
+    else sources
 
 abbrev pub stored_run : ℕ → SourceRun → SourceRun
 stored_run w source = record source { stored = w }
@@ -61,7 +66,8 @@ settled_run dest = option_map_or (settled_slip dest) (slice_get dest.kept dest.t
 
 -- where it waited, its record waits for one less
 abbrev pub settle_acks : List SourceRun → DestRun → List SourceRun
-settle_acks sources dest = if nat_lt dest.taken dest.moved then sources else option_map_or (λ slip. acks slip sources) (slice_get dest.kept dest.taken) sources
+settle_acks sources dest = if nat_lt dest.taken dest.moved then sources
+    else option_map_or (λ slip. acks slip sources) (slice_get dest.kept dest.taken) sources
 
 abbrev pub settle_turn : ℕ → Run → Run
 settle_turn d run = record run {
@@ -103,12 +109,14 @@ can_move capacity dest = option_map_or (λ (slip : Slip). has_space capacity des
 abbrev pub move_turns : ℕ → ℕ → ℕ → Run → Option Run
 move_turns zero capacity d run = Some run
 move_turns (suc n) capacity d run =
-    if option_map_or (can_move capacity) (slice_get run.dests d) false then move_turns n capacity d (move_turn d run) else None
+    if option_map_or (can_move capacity) (slice_get run.dests d) false
+    then move_turns n capacity d (move_turn d run) else None
 
 -- Offers.
 
 abbrev pub queue_turn : DestRun → Offer → Verdict
-queue_turn dest offer = if offer.flow || nat_lt dest.unflowed dest.setup.fifo then Queued else DroppedFull
+queue_turn dest offer = if offer.flow || nat_lt dest.unflowed dest.setup.fifo then Queued
+    else DroppedFull
 
 abbrev pub disk_turn : BufferSetup → DestRun → Bool → Offer → Verdict
 disk_turn buffer dest broken offer =
@@ -140,13 +148,24 @@ judged_run (Some dest) failing failed offer verdict = judged_turn dest.setup.buf
     failed offer verdict
 
 abbrev pub slip_from : ℕ → ℕ → Offer → Slip
-slip_from i number offer = record { inlet = i; number = Some number; flow = offer.flow; message = offer.message }
+slip_from i number offer = record {
+  inlet = i;
+  number = Some number;
+  flow = offer.flow;
+  message = offer.message;
+}
 
 abbrev pub kept_run : ℕ → ℕ → Offer → DestRun → DestRun
-kept_run i number offer dest = record dest { kept = dest.kept ++ slip_from i number offer ∷ []; unflowed = if offer.flow then dest.unflowed else dest.unflowed + 1 }
+kept_run i number offer dest = record dest {
+  kept = dest.kept ++ slip_from i number offer ∷ [];
+  unflowed = if offer.flow then dest.unflowed else dest.unflowed + 1;
+}
 
 abbrev pub spooled_run : ℕ → ℕ → Offer → DestRun → DestRun
-spooled_run i number offer dest = record (kept_run i number offer dest) { moved = dest.moved + 1; used = dest.used + (5 + encoded_len offer.message) }
+spooled_run i number offer dest = record (kept_run i number offer dest) {
+  moved = dest.moved + 1;
+  used = dest.used + (5 + encoded_len offer.message);
+}
 
 -- a destination after an offer of that record with this verdict
 abbrev pub offered_run : ℕ → ℕ → Offer → Verdict → DestRun → DestRun

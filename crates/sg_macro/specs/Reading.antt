@@ -25,7 +25,8 @@ begins_with c (b ∷ bytes) = b == c
 -- the bytes before the first `:-`, all where there is none
 abbrev pub length_before_default : List ℕ → ℕ
 length_before_default [] = 0
-length_before_default (b ∷ bytes) = if (b == 58) && begins_with 45 bytes then 0 else 1 + length_before_default bytes
+length_before_default (b ∷ bytes) =
+    if (b == 58) && begins_with 45 bytes then 0 else 1 + length_before_default bytes
 
 -- a macro, or a pair, by its name, with the text that stands in place of an empty one
 abbrev pub part_of : Option MacroKind → List ℕ → List ℕ → TemplatePart
@@ -45,7 +46,8 @@ brace_cut bytes =
     let len = length_before 125 bytes in
     let inner = take len bytes in
     let name = length_before_default inner in
-    if len == length bytes then Err OpenBrace else cut (named (take name inner) (drop (name + 2) inner)) (len + 3)
+    if len == length bytes then Err OpenBrace
+    else cut (named (take name inner) (drop (name + 2) inner)) (len + 3)
 
 -- `$NAME`, of the longest run of such bytes behind the dollar; without them the dollar is itself
 abbrev pub word_cut : List ℕ → Result CutPart TemplateFault

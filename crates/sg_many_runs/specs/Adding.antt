@@ -64,7 +64,8 @@ IsTaken taken old pass offer = Contains taken (taking_of offer)
     ⊎ ((pass.end ≤ old) × Contains taken (taking_of (as_stored offer)))
 
 -- what was taken is an offer of a pass, in this form
-pub record IsTakingOf (form : Offer → Offer) (offers : Offers) (passes : List Pass) (taken : Delivery) : Type 0 where
+pub record IsTakingOf (form : Offer → Offer) (offers : Offers) (passes : List Pass)
+    (taken : Delivery) : Type 0 where
   pub pass : Pass
   pub had : Contains passes pass
   pub given : List Offer
@@ -75,7 +76,8 @@ pub record IsTakingOf (form : Offer → Offer) (offers : Offers) (passes : List 
 
 -- it is the message of an entry in these images
 abbrev pub IsEntryIn : Setup → Images → Delivery → Type 0
-IsEntryIn setup images taken = (kept : BufferedEntry) × (Contains (list_at setup images taken.dest) kept
+IsEntryIn setup images taken =
+    (kept : BufferedEntry) × (Contains (list_at setup images taken.dest) kept
     × (taken ≡ record { dest = taken.dest; message = kept.message }))
 
 -- What each run took is an offer of a record that came in then or before, or, of an entry that stood in the stores at the start, an offer
@@ -91,7 +93,8 @@ TakeOffers setup offers started first passes (run ∷ runs) =
 
 -- What the stores held was covered, and the last run ends clean: each record of each file has a pass of which each offer with flow-control was
 -- taken at least once, and nothing else was taken than offers.
-pub record AddUp (setup : Setup) (offers : Offers) (taken : List Delivery) (passes : List Pass) (before : Images) (runs : List Stopped) (last : Stopped) : Type 0 where
+pub record AddUp (setup : Setup) (offers : Offers) (taken : List Delivery) (passes : List Pass)
+    (before : Images) (runs : List Stopped) (last : Stopped) : Type 0 where
   pub every : (i : ℕ) (piece : Piece) → IsFile setup i → Contains (last.files i) piece
       → IsPassed offers
       (IsTaken (taken ++ all_taken setup (runs ++ last ∷ [])) (position_in before i))

@@ -57,7 +57,12 @@ as_stored offer = record offer { message = stored_form offer.message }
 
 -- the entry of a disk-buffer that an offer of a pass is, and what its destination takes of it
 abbrev pub entry_of : Pass → Offer → BufferedEntry
-entry_of pass offer = record { inlet = pass.inlet; end = pass.end; flow = offer.flow; message = offer.message }
+entry_of pass offer = record {
+  inlet = pass.inlet;
+  end = pass.end;
+  flow = offer.flow;
+  message = offer.message;
+}
 
 abbrev pub taking_of : Offer → Delivery
 taking_of offer = record { dest = offer.dest; message = offer.message }
@@ -84,7 +89,8 @@ IsKeptSafe setup taken images old pass offer = IsOfferHeld setup taken images pa
     ⊎ ((pass.end ≤ old) × IsOfferHeld setup taken images pass (as_stored offer))
 
 -- the item has a pass for which so much holds of each offer with flow-control
-pub record IsPassed (offers : Offers) (Owed : Pass → Offer → Type 0) (passes : List Pass) (i : ℕ) (piece : Piece) : Type 0 where
+pub record IsPassed (offers : Offers) (Owed : Pass → Offer → Type 0) (passes : List Pass) (i : ℕ)
+    (piece : Piece) : Type 0 where
   pub pass : Pass
   pub had : Contains passes pass
   pub is : IsPassOf i piece pass
@@ -93,7 +99,8 @@ pub record IsPassed (offers : Offers) (Owed : Pass → Offer → Type 0) (passes
   pub each : (offer : Offer) → Contains given offer → offer.flow ≡ true → Owed pass offer
 
 -- an entry at d is that of an offer of a pass, in this form
-pub record IsOfferOf (form : Offer → Offer) (offers : Offers) (passes : List Pass) (d : ℕ) (kept : BufferedEntry) : Type 0 where
+pub record IsOfferOf (form : Offer → Offer) (offers : Offers) (passes : List Pass) (d : ℕ)
+    (kept : BufferedEntry) : Type 0 where
   pub pass : Pass
   pub had : Contains passes pass
   pub given : List Offer
@@ -110,7 +117,8 @@ IsOffered offers passes d kept = IsOfferOf as_given offers passes d kept
 
 -- What was taken, the passes that there were and what the stores hold cover the files, whose items these are: `old` are places up to
 -- which stored forms count.
-pub record Covered (setup : Setup) (offers : Offers) (files : ℕ → List Piece) (taken : List Delivery) (passes : List Pass) (old : ℕ → ℕ) (images : Images) : Type 0 where
+pub record Covered (setup : Setup) (offers : Offers) (files : ℕ → List Piece)
+    (taken : List Delivery) (passes : List Pass) (old : ℕ → ℕ) (images : Images) : Type 0 where
   -- the position of a file is 0, or the end of an item of it
   pub positions : (i position : ℕ) → IsFile setup i → slice_get images.positions i ≡ Some position
       → (position ≡ 0) ⊎ ((piece : Piece) × (Contains (files i) piece × (piece.end ≡ position)))

@@ -47,7 +47,9 @@ bytes_left bytes (Opened run ∷ runs) = bytes_left run.bytes runs
 bytes_left bytes (Unopened run ∷ runs) = bytes_left bytes runs
 
 -- what they left is covered by what they took and the records that came in, where these lists stand in it
-pub record PlanRunsLeave {R : Type 0} {offers : R → ℕ → Record → List Offer → Type 0} {plan : RunPlan} {by : List R} (bytes : ℕ → List ℕ) (before : List (List ℕ)) (runs : List (RunOf offers plan by)) (lists : List (List BufferedEntry)) : Type 0 where
+pub record PlanRunsLeave {R : Type 0} {offers : R → ℕ → Record → List Offer → Type 0}
+    {plan : RunPlan} {by : List R} (bytes : ℕ → List ℕ) (before : List (List ℕ))
+    (runs : List (RunOf offers plan by)) (lists : List (List BufferedEntry)) : Type 0 where
   pub stopped : List Stopped
   pub stops : AreStopsOf (opened_among runs) stopped
   pub covered : Covered plan.setup (offers_in offers by)
@@ -82,7 +84,9 @@ AllEndWell [] = Unit {0}
 AllEndWell (run ∷ runs) = EndsWell run × AllEndWell runs
 
 -- Of each file's items, all that the last run's has, each came in once, and of their offers each destination took each once.
-pub record PlanRunsOnce {R : Type 0} {offers : R → ℕ → Record → List Offer → Type 0} {plan : RunPlan} {by : List R} (runs : List (PlanRun offers plan by)) (last : PlanRun offers plan by) : Type 0 where
+pub record PlanRunsOnce {R : Type 0} {offers : R → ℕ → Record → List Offer → Type 0}
+    {plan : RunPlan} {by : List R} (runs : List (PlanRun offers plan by))
+    (last : PlanRun offers plan by) : Type 0 where
   pub stopped : List Stopped
   pub stops : AreStopsOf (runs ++ last ∷ []) stopped
   pub once : ExactlyOnce plan.setup (offers_in offers by) stopped

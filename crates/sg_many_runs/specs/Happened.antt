@@ -47,9 +47,11 @@ positions_by sources images = map (λ (source : SourceSetup). position_in images
     sources
 
 -- these are the lists that the images of the disk-buffers stand for; of other destinations they may be any
-pub record AreListsBy (dests : List DestSetup) (images : List (List ℕ)) (lists : List (List BufferedEntry)) : Type 0 where
+pub record AreListsBy (dests : List DestSetup) (images : List (List ℕ))
+    (lists : List (List BufferedEntry)) : Type 0 where
   pub every : length lists ≡ length dests
-  pub each : (d : ℕ) (dest : DestSetup) (buffer : BufferSetup) (list : List BufferedEntry) (bytes : List ℕ)
+  pub each : (d : ℕ) (dest : DestSetup) (buffer : BufferSetup) (list : List BufferedEntry)
+      (bytes : List ℕ)
       → slice_get dests d ≡ Some dest → dest.buffer ≡ Some buffer
       → slice_get lists d ≡ Some list → slice_get images buffer.store ≡ Some bytes
       → IsListOf (map coded list) bytes
@@ -87,7 +89,8 @@ AreBytesOf files (Slot ip port slot once) bytes = Unit {0}
 
 -- The machine tells its files, of which those of inlets with a position store have these bytes; and of these inlets each that was opened tells
 -- what it gives.
-pub record TellFiles (told : Option Files) (plan : RunPlan) (feeds : List InletState) (bytes : ℕ → List ℕ) : Type 0 where
+pub record TellFiles (told : Option Files) (plan : RunPlan) (feeds : List InletState)
+    (bytes : ℕ → List ℕ) : Type 0 where
   pub files : Files
   pub told_are : told ≡ Some files
   pub bytes_are : (i : ℕ) (inlet : InletPlan) → IsFile plan.setup i
@@ -104,7 +107,8 @@ files_of plans bytes i = option_map_or (λ (plan : InletPlan). pieces plan.kind 
 
 -- What happened at the core of a plan's run: it was opened over the stores, and these events followed, in which the outlets took the frames of
 -- the entries that are settled at the end, and these records came in.
-pub record Happened (offers : Offers) (files : Option Files) (plan : RunPlan) (reached : Reached) (run : CoreRun) : Type 0 where
+pub record Happened (offers : Offers) (files : Option Files) (plan : RunPlan) (reached : Reached)
+    (run : CoreRun) : Type 0 where
   pub opens : IsOpen plan.setup reached.stores run.first
   pub later : List Event
   -- these are those of the calls of the rounds
@@ -148,13 +152,16 @@ stopped_with plan bytes opening events event came images = record {
 
 -- So stopped it is a run that began with what those images before it hold, and what it leaves is covered, with the entries settled and the
 -- passes of the records that had come in.
-pub record CoversStop (setup : Setup) (offers : Offers) (before : Images) (taken : List Delivery) (passes : List Pass) (old : ℕ → ℕ) (run : Stopped) : Type 0 where
+pub record CoversStop (setup : Setup) (offers : Offers) (before : Images) (taken : List Delivery)
+    (passes : List Pass) (old : ℕ → ℕ) (run : Stopped) : Type 0 where
   pub stopped : IsStoppedRun setup offers before run
   pub covered : Covered setup offers run.files (taken ++ taken_in setup run) (passes ++ run.passes)
       old run.images
 
 -- what the run leaves, over the contents of the stores, which are `first`
-pub record LeavesCovered {offers : Offers} {files : Option Files} {plan : RunPlan} {reached : Reached} {run : CoreRun} (happened : Happened offers files plan reached run) (bytes : ℕ → List ℕ) (taken : List Delivery) (passes : List Pass) (old : ℕ → ℕ) : Type 0 where
+pub record LeavesCovered {offers : Offers} {files : Option Files} {plan : RunPlan}
+    {reached : Reached} {run : CoreRun} (happened : Happened offers files plan reached run)
+    (bytes : ℕ → List ℕ) (taken : List Delivery) (passes : List Pass) (old : ℕ → ℕ) : Type 0 where
   pub first : List (List ℕ)
   pub first_are : AreImagesOf reached.stores first
   pub first_lists : AreListsBy plan.setup.dests first ((happened.opens).opening).entries

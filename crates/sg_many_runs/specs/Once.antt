@@ -60,7 +60,8 @@ AreGiven offers (p ∷ ps) (g ∷ gs) = (g.pass ≡ p) × offers p g.offers × A
 
 -- the offers to d of these passes of inlet i, as entries, in order
 abbrev pub owed_by : (i d : ℕ) → Given → List BufferedEntry
-owed_by i d g = if g.pass.inlet == i then map (entry_of g.pass) (filter (λ o. o.dest == d) g.offers) else []
+owed_by i d g = if g.pass.inlet == i then map (entry_of g.pass) (filter (λ o. o.dest == d) g.offers)
+    else []
 
 abbrev pub owed_to : (i d : ℕ) → List Given → List BufferedEntry
 owed_to i d [] = []
@@ -72,10 +73,12 @@ owed_to i d (g ∷ gs) = owed_by i d g ++ owed_to i d gs
 abbrev pub dropped_of : ℕ → List Claim → List Verdict → List Bool
 dropped_of d [] vs = []
 dropped_of d (c ∷ cs) [] = []
-dropped_of d (c ∷ cs) (v ∷ vs) = if c.offer.dest == d then is_dropped v ∷ dropped_of d cs vs else dropped_of d cs vs
+dropped_of d (c ∷ cs) (v ∷ vs) =
+    if c.offer.dest == d then is_dropped v ∷ dropped_of d cs vs else dropped_of d cs vs
 
 abbrev pub dropped_by : (i d : ℕ) → Act → List Bool
-dropped_by i d (Admit j records verdicts) = if j == i then dropped_of d (claims_of records) verdicts else []
+dropped_by i d (Admit j records verdicts) =
+    if j == i then dropped_of d (claims_of records) verdicts else []
 dropped_by i d _ = []
 
 abbrev pub dropped_in : (i d : ℕ) → List Event → List Bool
@@ -112,7 +115,8 @@ pub record TakesEach (dropped : List Bool) (owed taken : List BufferedEntry) : T
   pub whole : (Contains dropped true → ⊥) → taken ≡ owed
 
 -- The items of each file are its passes, each once, in order; and of these, each with its own offers, each destination took each once.
-pub record ExactlyOnce (setup : Setup) (offers : Offers) (runs : List Stopped) (files : ℕ → List Piece) : Type 0 where
+pub record ExactlyOnce (setup : Setup) (offers : Offers) (runs : List Stopped)
+    (files : ℕ → List Piece) : Type 0 where
   pub records : (i : ℕ) → IsFile setup i → pieces_of i (all_passes runs) ≡ files i
   pub given : List Given
   pub gives : AreGiven offers (all_passes runs) given

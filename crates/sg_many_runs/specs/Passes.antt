@@ -73,15 +73,18 @@ pub record BeginsWithImages (setup : Setup) (images : Images) (opening : Opening
   pub every_list : length images.lists ≡ length setup.dests
   pub places : (i position : ℕ) → IsFile setup i → slice_get images.positions i ≡ Some position
       → slice_get opening.places i ≡ Some position
-  pub lists : (d : ℕ) (dest : DestSetup) (list : List BufferedEntry) → slice_get setup.dests d ≡ Some dest
+  pub lists : (d : ℕ) (dest : DestSetup) (list : List BufferedEntry)
+      → slice_get setup.dests d ≡ Some dest
       → is_some dest.buffer ≡ true → slice_get images.lists d ≡ Some list
       → slice_get opening.entries d ≡ Some list
-  pub bare : (d : ℕ) (dest : DestSetup) (list : List BufferedEntry) → slice_get setup.dests d ≡ Some dest
+  pub bare : (d : ℕ) (dest : DestSetup) (list : List BufferedEntry)
+      → slice_get setup.dests d ≡ Some dest
       → dest.buffer ≡ None → slice_get opening.entries d ≡ Some list → list ≡ []
 
 -- The run began with what these images hold, and was stopped at what is safe. Of each file it read the first of the items behind the
 -- inlet's opening place, which is 0 where that began anew.
-pub record IsStoppedRun (setup : Setup) (offers : Offers) (before : Images) (run : Stopped) : Type 0 where
+pub record IsStoppedRun (setup : Setup) (offers : Offers) (before : Images)
+    (run : Stopped) : Type 0 where
   pub begins : BeginsWithImages setup before run.opening
   pub legal : are_legal (opened setup run.opening) (run.events ++ run.event ∷ []) ≡ true
   pub safe : Safe (opened setup run.opening) run.events run.event run.images

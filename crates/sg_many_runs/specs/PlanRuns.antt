@@ -39,7 +39,9 @@ asked plan once = record {
 }
 
 -- Within the event of this number: the stores have images of moments within it.
-pub record StopsWithin {offers : Offers} {files : Option Files} {plan : RunPlan} {reached : Reached} {run : CoreRun} (happened : Happened offers files plan reached run) (events : List Event) (event : Event) (images : List (List ℕ)) : Type 0 where
+pub record StopsWithin {offers : Offers} {files : Option Files} {plan : RunPlan} {reached : Reached}
+    {run : CoreRun} (happened : Happened offers files plan reached run) (events : List Event)
+    (event : Event) (images : List (List ℕ)) : Type 0 where
   pub number : ℕ
   pub at : slice_get (run.prelude ++ happened.later) number ≡ Some event
   pub events_are : events ≡ take number (run.prelude ++ happened.later)
@@ -47,14 +49,17 @@ pub record StopsWithin {offers : Offers} {files : Option Files} {plan : RunPlan}
       (((happened.ran).stands).moments.rows (number + 1)) images
 
 -- at the return
-pub record StopsThen {offers : Offers} {files : Option Files} {plan : RunPlan} {reached : Reached} {run : CoreRun} (happened : Happened offers files plan reached run) (events : List Event) (event : Event) (images : List (List ℕ)) : Type 0 where
+pub record StopsThen {offers : Offers} {files : Option Files} {plan : RunPlan} {reached : Reached}
+    {run : CoreRun} (happened : Happened offers files plan reached run) (events : List Event)
+    (event : Event) (images : List (List ℕ)) : Type 0 where
   pub none : event ≡ nothing
   pub events_are : events ≡ run.prelude ++ happened.later
   pub images_are : AreImagesOf reached.stores_closed images
 
 -- A run of the plan whose core was opened: what happened there, the bytes of its files, behind which events it was stopped with which one on,
 -- and what that left in its stores. Offers are those of the routers `by`.
-pub record PlanRun {R : Type 0} (offers : R → ℕ → Record → List Offer → Type 0) (plan : RunPlan) (by : List R) : Type 0 where
+pub record PlanRun {R : Type 0} (offers : R → ℕ → Record → List Offer → Type 0) (plan : RunPlan)
+    (by : List R) : Type 0 where
   pub once : Bool
   pub old : WorldState
   pub new : WorldState
@@ -75,7 +80,9 @@ TellThese disks images = (s : ℕ) (disk : DiskState) → slice_get disks s ≡ 
     → (bytes : List ℕ) × ((slice_get images s ≡ Some bytes) × (content disk ≡ Some bytes))
 
 -- so it was run, over stores that held this, and stopped
-pub record IsPlanRun {R I O : Type 0} (feed : I → InletState) (drain : O → OutletState) (offers : R → ℕ → Record → List Offer → Type 0) (inlets dests : R → ℕ) (plan : RunPlan) (by : List R) (before : List (List ℕ)) (run : PlanRun offers plan by) : Type 0 where
+pub record IsPlanRun {R I O : Type 0} (feed : I → InletState) (drain : O → OutletState)
+    (offers : R → ℕ → Record → List Offer → Type 0) (inlets dests : R → ℕ) (plan : RunPlan)
+    (by : List R) (before : List (List ℕ)) (run : PlanRun offers plan by) : Type 0 where
   pub runs : RunsWith feed drain offers inlets dests run.old run.new (asked plan run.once)
       run.routers run.rounds run.ending run.reached
   pub core : run.reached.core ≡ Some run.run
@@ -85,7 +92,8 @@ pub record IsPlanRun {R I O : Type 0} (feed : I → InletState) (drain : O → O
       ⊎ StopsThen run.happened run.events run.event run.images
 
 -- it is this run that was stopped, with the first of the records that came in
-pub record IsStopOf {R : Type 0} {offers : R → ℕ → Record → List Offer → Type 0} {plan : RunPlan} {by : List R} (run : PlanRun offers plan by) (stopped : Stopped) : Type 0 where
+pub record IsStopOf {R : Type 0} {offers : R → ℕ → Record → List Offer → Type 0} {plan : RunPlan}
+    {by : List R} (run : PlanRun offers plan by) (stopped : Stopped) : Type 0 where
   pub came : List Pass
   pub rest : List Pass
   pub came_are : (run.happened).came ≡ came ++ rest
@@ -97,7 +105,8 @@ pub record IsStopOf {R : Type 0} {offers : R → ℕ → Record → List Offer �
       run.event came (held_by plan.setup run.images lists)
 
 -- It ended quietly, with nothing counted as failed, and returned.
-pub record EndsWell {R : Type 0} {offers : R → ℕ → Record → List Offer → Type 0} {plan : RunPlan} {by : List R} (run : PlanRun offers plan by) : Type 0 where
+pub record EndsWell {R : Type 0} {offers : R → ℕ → Record → List Offer → Type 0} {plan : RunPlan}
+    {by : List R} (run : PlanRun offers plan by) : Type 0 where
   pub counts : Counts
   pub ending_is : run.ending ≡ Ran Quiet (Some counts)
   pub well : first_fault counts.sinks counts.stores counts.inlets ≡ None
@@ -144,7 +153,9 @@ pub record StopsUnopened (reached : Reached) (before images : List (List ℕ)) :
   pub others : (s : ℕ) → slice_get reached.stores s ≡ None
       → slice_get images s ≡ slice_get before s
 
-pub record IsUnopenedRun {R I O : Type 0} (feed : I → InletState) (drain : O → OutletState) (offers : R → ℕ → Record → List Offer → Type 0) (inlets dests : R → ℕ) (plan : RunPlan) (before : List (List ℕ)) (run : UnopenedRun R) : Type 0 where
+pub record IsUnopenedRun {R I O : Type 0} (feed : I → InletState) (drain : O → OutletState)
+    (offers : R → ℕ → Record → List Offer → Type 0) (inlets dests : R → ℕ) (plan : RunPlan)
+    (before : List (List ℕ)) (run : UnopenedRun R) : Type 0 where
   pub runs : RunsWith feed drain offers inlets dests run.old run.new (asked plan run.once)
       run.routers run.rounds run.ending run.reached
   pub stops : StopsUnopened run.reached before run.images
@@ -152,7 +163,8 @@ pub record IsUnopenedRun {R I O : Type 0} (feed : I → InletState) (drain : O �
 -- All runs.
 
 -- a run, stopped once its core was open, or before that
-pub data RunOf {R : Type 0} (offers : R → ℕ → Record → List Offer → Type 0) (plan : RunPlan) (by : List R) : Type 0 where
+pub data RunOf {R : Type 0} (offers : R → ℕ → Record → List Offer → Type 0) (plan : RunPlan)
+    (by : List R) : Type 0 where
   Opened : PlanRun offers plan by → RunOf offers plan by
   Unopened : UnopenedRun R → RunOf offers plan by
 
@@ -188,7 +200,9 @@ AreStopsOf (run ∷ runs) (s ∷ ss) = IsStopOf run s × AreStopsOf runs ss
 
 -- These lists stand in the images at the start, and this is what the runs add up to; those that
 -- were stopped before their core was open add nothing.
-pub record PlanRunsSum {R : Type 0} {offers : R → ℕ → Record → List Offer → Type 0} {plan : RunPlan} {by : List R} (taken : List Delivery) (passes : List Pass) (before : List (List ℕ)) (runs : List (RunOf offers plan by)) (last : PlanRun offers plan by) : Type 0 where
+pub record PlanRunsSum {R : Type 0} {offers : R → ℕ → Record → List Offer → Type 0} {plan : RunPlan}
+    {by : List R} (taken : List Delivery) (passes : List Pass) (before : List (List ℕ))
+    (runs : List (RunOf offers plan by)) (last : PlanRun offers plan by) : Type 0 where
   pub lists : List (List BufferedEntry)
   pub lists_are : AreListsBy plan.setup.dests before lists
   pub stopped : List Stopped

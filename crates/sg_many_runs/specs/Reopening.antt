@@ -17,12 +17,14 @@ TellImages disks images = (s : ℕ) (disk : DiskState) → slice_get disks s ≡
     → (bytes : List ℕ) × (slice_get images s ≡ Some bytes) × (content disk ≡ Some bytes)
 
 -- an opening has the positions and the lists that stand in these images of a core's stores
-pub record OpensWithImages (core : CoreState) (images : List (List ℕ)) (opening : Opening) : Type 0 where
+pub record OpensWithImages (core : CoreState) (images : List (List ℕ))
+    (opening : Opening) : Type 0 where
   pub positions : opening.places ≡ positions_in core.sources images
   pub lists : AreListsIn core.sinks images opening.entries
 
 -- A core opened over these disks with the same setup begins with what stands in the images, and none of its stores is damaged.
-pub record OpensAgain (core : CoreState) (images : List (List ℕ)) (disks : List DiskState) : Type 0 where
+pub record OpensAgain (core : CoreState) (images : List (List ℕ))
+    (disks : List DiskState) : Type 0 where
   pub begins : (again : CoreState) (opens : IsOpen (setup_of core) disks again)
       → OpensWithImages core images opens.opening
   pub whole : (news : List DiskState) (s at : ℕ) → IsUsed (setup_of core) s

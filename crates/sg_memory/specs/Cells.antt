@@ -25,7 +25,8 @@ abbrev mutual
 
 abbrev mutual
   pub outlet_cells : MemoryOutletCell → List OutletState
-  outlet_cells (MemoryOutletCell' closed before) = outlet_cells_before before ++ listed outlet_of closed
+  outlet_cells (MemoryOutletCell' closed before) =
+      outlet_cells_before before ++ listed outlet_of closed
 
   pub outlet_cells_before : Held-MemoryOutletCell-before → List OutletState
   outlet_cells_before NoOutlet = []

@@ -95,6 +95,7 @@ PullGives fails gives (Ok pull) = (fails ≡ false) × (pull ≡ gives)
 PullGives fails gives (Err e) = fails ≡ true
 
 -- with so much room it fails and gives as its plan and its bytes say, and the plan goes on by this call
-pub record PullsByPlan (old new : MemoryInlet) (room : ℕ) (result : Result Pull InletFault) : Type 0 where
+pub record PullsByPlan (old new : MemoryInlet) (room : ℕ)
+    (result : Result Pull InletFault) : Type 0 where
   pub pulls : PullGives (pull_fails old) (pull_gives old room) result
   pub plan : new.plan ≡ after_call old.plan

@@ -5,7 +5,13 @@ use Rattle.sg_memory.specs.declared.outlet.MemoryOutlet.{MemoryOutlet}
 
 -- what the outlet tells
 abbrev pub outlet_of : MemoryOutlet → OutletState
-outlet_of outlet = record { taken = Some outlet.frames; count = length outlet.frames; faults = outlet.faults; failing = outlet.failing; laters = outlet.laters }
+outlet_of outlet = record {
+  taken = Some outlet.frames;
+  count = length outlet.frames;
+  faults = outlet.faults;
+  failing = outlet.failing;
+  laters = outlet.laters;
+}
 
 -- what an outlet tells that took nothing yet
 abbrev pub new_outlet : OutletState

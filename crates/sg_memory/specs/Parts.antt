@@ -12,5 +12,6 @@ begun parts = parts.past.items ++ listed parts.present
 abbrev pub BeginsPart : MemoryParts → MemoryParts → Bool → Type 0
 BeginsPart old new true = (new.past.items ≡ begun old) × (is_some new.present ≡ true)
     × (given_of new.present ≡ 0) × (length old.waiting.items ≡ length new.waiting.items + 1)
-BeginsPart old new false = (old.waiting.items ≡ []) × (new.waiting.items ≡ []) × (new.past ≡ old.past)
+BeginsPart old new false = (old.waiting.items ≡ []) × (new.waiting.items ≡ [])
+    × (new.past ≡ old.past)
     × (new.present ≡ old.present)

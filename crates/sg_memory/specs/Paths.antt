@@ -25,9 +25,11 @@ abbrev pub new_paths : PathsState
 new_paths = record { opened = []; taken = Some []; count = 0; faults = 0; failing = 0; laters = 0 }
 
 -- the first so many of the texts were taken under the path, and nothing failed or was too early
-pub record TakesUnder (path : List ℕ) (texts : List (List ℕ)) (k : ℕ) (old new : PathsState) : Type 0 where
+pub record TakesUnder (path : List ℕ) (texts : List (List ℕ)) (k : ℕ)
+    (old new : PathsState) : Type 0 where
   pub taken : new.taken
-      ≡ option_map (λ before. before ++ under_path path (take (new.count - old.count) texts)) old.taken
+      ≡ option_map (λ before. before
+      ++ under_path path (take (new.count - old.count) texts)) old.taken
   pub count : new.count ≡ old.count + k
   pub failing : new.failing ≡ failing_after k old.failing
   pub opened : new.opened ≡ old.opened

@@ -13,14 +13,15 @@ abbrev pub fails_or : Bool → Bool → ℕ → Bool
 fails_or fails early laters = fails || (early && (laters == 2 ^ 64 - 1))
 
 -- a send fails, or is too early, exactly where the script says so
-abbrev pub SendsBy : OutletScript → ℕ → Result Unit SendRefusal → Type 0
-SendsBy script laters (Ok done) = (fails_now script.fails ≡ false)
+abbrev pub SendsByScript : OutletScript → ℕ → Result Unit SendRefusal → Type 0
+SendsByScript script laters (Ok done) = (fails_now script.fails ≡ false)
     × (fails_now script.waits ≡ false)
-SendsBy script laters (Err Fault) = fails_or (fails_now script.fails) (fails_now script.waits) laters
+SendsByScript script laters (Err Fault) =
+    fails_or (fails_now script.fails) (fails_now script.waits) laters
     ≡ true
-SendsBy script laters (Err SendLater) = (fails_now script.fails ≡ false)
+SendsByScript script laters (Err SendLater) = (fails_now script.fails ≡ false)
     × (fails_now script.waits ≡ true)
-SendsBy script laters (Err NoMemory) = (fails_now script.fails ≡ false)
+SendsByScript script laters (Err NoMemory) = (fails_now script.fails ≡ false)
     × (fails_now script.waits ≡ false)
 
 -- what a send comes to where memory doesn't run out
@@ -45,7 +46,8 @@ ReopensBy script laters (Err e) = fails_or (fails_now script.fails) (fails_now s
 abbrev pub OpensBy : OutletScript → ℕ → Result Unit SendRefusal → Type 0
 OpensBy script laters (Ok done) = (fails_now script.fails ≡ false)
     × (fails_now script.laters ≡ false)
-OpensBy script laters (Err Fault) = fails_or (fails_now script.fails) (fails_now script.laters) laters
+OpensBy script laters (Err Fault) =
+    fails_or (fails_now script.fails) (fails_now script.laters) laters
     ≡ true
 OpensBy script laters (Err SendLater) = (fails_now script.fails ≡ false)
     × (fails_now script.laters ≡ true)

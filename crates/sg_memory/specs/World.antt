@@ -48,10 +48,19 @@ abbrev pub world_of : MemoryWorld → WorldState
 world_of world = record {
   files = Some (file_of world.files.items);
   unread = world.unread;
-  inlets = record { opened = map opened_inlet world.opened_inlets.items; closed = inlet_states world.closed_inlets };
-  outlets = record { opened = map opened_outlet world.opened_outlets.items; closed = outlet_states world.closed_outlets };
+  inlets = record {
+    opened = map opened_inlet world.opened_inlets.items;
+    closed = inlet_states world.closed_inlets;
+  };
+  outlets = record {
+    opened = map opened_outlet world.opened_outlets.items;
+    closed = outlet_states world.closed_outlets;
+  };
   stores = stores_of world.stores;
-  paths = record { opened = map opened_paths world.opened_paths.items; closed = paths_states world.closed_paths };
+  paths = record {
+    opened = map opened_paths world.opened_paths.items;
+    closed = paths_states world.closed_paths;
+  };
   store_names = Some world.stores.names.items;
   said = Some world.said.items;
   read_faults = world.read_faults;
@@ -96,11 +105,13 @@ IsFileRest (Some bytes) limit from opened = (opened.from ≡ place_in limit byte
 
 -- what an inlet is opened for
 abbrev pub IsInletSource : List MemoryFile → InletSpec → ℕ → MemoryOpenedInlet → Type 0
-IsInletSource files (File path once limit) from opened = IsFileRest (file_of files path) limit from opened
+IsInletSource files (File path once limit) from opened =
+    IsFileRest (file_of files path) limit from opened
 IsInletSource files (Slot ip port slot once) from opened = opened.from ≡ 0
 
 abbrev pub IsMemoryOpenedFor : List MemoryFile → InletSpec → ℕ → MemoryOpenedInlet → Type 0
-IsMemoryOpenedFor files spec from opened = (opened.spec ≡ spec) × IsInletSource files spec from opened
+IsMemoryOpenedFor files spec from opened =
+    (opened.spec ≡ spec) × IsInletSource files spec from opened
 
 -- an inlet ends behind its file or its first connection
 abbrev pub once_of : InletSpec → Bool
@@ -109,7 +120,8 @@ once_of (Slot ip port slot once) = once
 
 -- an inlet more was opened
 abbrev pub with_inlet : WorldState → MemoryOpenedInlet → WorldState
-with_inlet world opened = record world { inlets = with_opened world.inlets opened.spec (opened_state opened) }
+with_inlet world opened = record world
+    { inlets = with_opened world.inlets opened.spec (opened_state opened) }
 
 -- a file can't be read exactly where this says so, but for lack of memory
 abbrev pub ReadFails : Bool → Result (Vec ℕ Global) FileRefusal → Type 0

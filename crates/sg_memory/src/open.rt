@@ -4,7 +4,7 @@ ghost use Rattle.sg_device.specs.Inlet.{PullFills, PullTells, PullMoves, PullLea
 ghost use Rattle.sg_device.specs.Outlet.{Sends};
 ghost use Rattle.sg_memory.specs.Inlet.{PullsByPlan};
 ghost use Rattle.sg_memory.specs.Open.{feed_of, drain_of, opener_of};
-ghost use Rattle.sg_memory.specs.Scripts.{SendsBy};
+ghost use Rattle.sg_memory.specs.Scripts.{SendsByScript};
 ghost use Rattle.sg_memory_disk.specs.Plan.{after_call};
 
 use crate::cells::{MemoryInletCell, MemoryOutletCell, MemoryPathsCell};
@@ -57,7 +57,7 @@ impl Outlet for MemoryDrain {
     fn send(&mut self, frames: &Frames) -> Result<(), SendRefusal>
         requires { frames.now ≢ [] }
         ensures sends { Sends (drain_of self.old) (drain_of self.new) frames.now result }
-        ensures fails { SendsBy self.old.outlet.plan self.old.outlet.laters result }
+        ensures fails { SendsByScript self.old.outlet.plan self.old.outlet.laters result }
         ensures plan { self.new.outlet.plan ≡ record self.old.outlet.plan {
           fails = after_call self.old.outlet.plan.fails;
           waits = after_call self.old.outlet.plan.waits;

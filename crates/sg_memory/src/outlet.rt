@@ -56,7 +56,7 @@ impl MemoryOutlet {
 
 impl Outlet for MemoryOutlet {
     ghost use Rattle.sg_memory.specs.Outlet.{outlet_of};
-    ghost use Rattle.sg_memory.specs.Scripts.{SendsBy, ReopensBy};
+    ghost use Rattle.sg_memory.specs.Scripts.{SendsByScript, ReopensBy};
     ghost use Rattle.sg_memory_disk.specs.Plan.{after_call};
 
     ghost state = { outlet_of };
@@ -64,7 +64,7 @@ impl Outlet for MemoryOutlet {
     fn send(&mut self, frames: &Frames) -> Result<(), SendRefusal>
         requires { frames.now ≢ [] }
         ensures sends { Sends (outlet_of self.old) (outlet_of self.new) frames.now result }
-        ensures fails { SendsBy self.old.plan self.old.laters result }
+        ensures fails { SendsByScript self.old.plan self.old.laters result }
         ensures plan { self.new.plan ≡ record self.old.plan
             { fails = after_call self.old.plan.fails; waits = after_call self.old.plan.waits } }
     {

@@ -99,7 +99,8 @@ impl MemoryPaths {
     // Takes the first texts, fewer only where memory runs out, and says how many.
     fn take_texts(&mut self, path: &[u8], texts: &Frames, wanted: usize) -> usize
         requires { wanted ≤ length texts.now }
-        ensures took { TakesUnder path.now texts.now result (paths_of self.old) (paths_of self.new) }
+        ensures took { TakesUnder path.now texts.now result (paths_of self.old)
+            (paths_of self.new) }
         ensures bound { result ≤ wanted }
     {
         let count = take_first(self.alloc, &mut self.taken, path, texts, wanted);
@@ -112,7 +113,8 @@ impl MemoryPaths {
     // Takes the texts that a send takes before it fails or is too early, and says how many.
     fn take_some(&mut self, path: &[u8], texts: &Frames) -> usize
         requires { texts.now ≢ [] }
-        ensures took { TakesUnder path.now texts.now result (paths_of self.old) (paths_of self.new) }
+        ensures took { TakesUnder path.now texts.now result (paths_of self.old)
+            (paths_of self.new) }
         ensures some { result < length texts.now }
     {
         let wanted = self.plan.calls.first.min(texts.len() - 1);
@@ -122,7 +124,7 @@ impl MemoryPaths {
 
 impl Opener for MemoryPaths {
     ghost use Rattle.sg_memory.specs.Paths.{paths_of};
-    ghost use Rattle.sg_memory.specs.Scripts.{OpensBy, SendsBy, ReopensBy};
+    ghost use Rattle.sg_memory.specs.Scripts.{OpensBy, SendsByScript, ReopensBy};
     ghost use Rattle.sg_memory_disk.specs.Plan.{fails_now};
 
     ghost state = { paths_of };
@@ -147,8 +149,9 @@ impl Opener for MemoryPaths {
     fn send(&mut self, path: &[u8], texts: &Frames) -> Result<(), SendRefusal>
         requires open { Contains (paths_of self.old).opened path.now }
         requires some { texts.now ≢ [] }
-        ensures sends { PathSends (paths_of self.old) (paths_of self.new) path.now texts.now result }
-        ensures fails { SendsBy self.old.plan.calls self.old.laters result }
+        ensures sends { PathSends (paths_of self.old) (paths_of self.new) path.now texts.now
+            result }
+        ensures fails { SendsByScript self.old.plan.calls self.old.laters result }
     {
         match self.plan.calls.next_send(self.laters) {
             Ok(Reopened::Ready) => {

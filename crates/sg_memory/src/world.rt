@@ -242,7 +242,8 @@ impl MemoryWorld {
         spec: &InletSpec,
         from: u64,
     ) -> Result<MemoryOpenedInlet, NoMemory>
-        ensures { IfOk result (λ opened. IsMemoryOpenedFor self.now.files.items spec.now from opened) }
+        ensures { IfOk result (λ opened.
+            IsMemoryOpenedFor self.now.files.items spec.now from opened) }
     {
         let mut place = 0;
         let mut left = Vec::new(alloc);

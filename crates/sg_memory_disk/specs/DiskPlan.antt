@@ -45,7 +45,9 @@ with_starved calls = record (with_fault calls) { starved = true }
 
 -- a call more, with its fault where it fails
 abbrev pub after_next : DiskCalls → DiskCalls
-after_next calls = if refuses calls.plan then with_fault (record calls { plan = counted calls.plan }) else record calls { plan = counted calls.plan }
+after_next calls = if refuses calls.plan
+    then with_fault (record calls { plan = counted calls.plan })
+    else record calls { plan = counted calls.plan }
 
 -- a call that takes no memory fails exactly where the plan says so
 abbrev pub FailsAsPlanned : {T : Type 0} → DiskCalls → DiskCalls → Result T DiskFault → Type 0

@@ -16,7 +16,7 @@ use Rattle.sg_memory_disk.specs.DiskPlan.{AreDisksQuiet}
 use Rattle.sg_memory_disk.specs.declared.stores.ClosedStore.{ClosedStore}
 use Rattle.sg_memory_disk.specs.declared.stores.MemoryStore.{MemoryStore}
 use Rattle.sg_memory_disk.specs.declared.stores.MemoryStores.{MemoryStores}
-use Rattle.sg_memory_disk.specs.declared.stores.OpenedStore.{OpenedStore}
+use Rattle.sg_memory_disk.specs.declared.stores.MemoryOpenedStore.{MemoryOpenedStore}
 use Rattle.sg_memory_disk.specs.declared.stores.MemoryStoreCell.{MemoryStoreCell, MemoryStoreCell', Held-MemoryStoreCell-before, None', Some'}
 
 abbrev pub store_of : MemoryStore → DiskState
@@ -29,7 +29,8 @@ listed_disk (Some store) = disk_of store.disk ∷ []
 -- this disk, where the store has this name, else another
 abbrev pub named_disk : Option ClosedStore → List ℕ → Option DiskState → Option DiskState
 named_disk None name other = other
-named_disk (Some store) name other = if bytes_eq store.name name then Some (disk_of store.disk) else other
+named_disk (Some store) name other =
+    if bytes_eq store.name name then Some (disk_of store.disk) else other
 
 abbrev pub starved_disk : Option ClosedStore → Bool
 starved_disk None = false
@@ -75,12 +76,15 @@ abbrev pub any_starved : Option (Box MemoryStoreCell Global) → Bool
 any_starved None = false
 any_starved (Some cell) = some_starved cell.value
 
-abbrev pub opened_store : OpenedStore → Opened StoreSpec DiskState
+abbrev pub opened_store : MemoryOpenedStore → Opened StoreSpec DiskState
 opened_store opened = record { spec = opened.spec; state = disk_of opened.disk }
 
 -- those opened and those closed
 abbrev pub stores_of : MemoryStores → Ledger StoreSpec DiskState
-stores_of stores = record { opened = map opened_store stores.opened.items; closed = store_states stores.closed }
+stores_of stores = record {
+  opened = map opened_store stores.opened.items;
+  closed = store_states stores.closed;
+}
 
 -- a store of this name is there
 abbrev pub is_named : List (List ℕ) → List ℕ → Bool
@@ -88,7 +92,8 @@ is_named names name = list_any (λ listed. bytes_eq listed name) names
 
 -- how the store that is opened was closed, where it is there and was closed
 abbrev pub found : MemoryStores → StoreSpec → Option DiskState
-found stores spec = if is_named stores.names.items spec.name then latest_state stores.closed spec.name else None
+found stores spec = if is_named stores.names.items spec.name
+    then latest_state stores.closed spec.name else None
 
 -- the state of a store at its opening: as it was closed last, else of 128 zero bytes
 abbrev pub at_opening : MemoryStores → StoreSpec → DiskState
@@ -104,7 +109,8 @@ MemoryStoresOpen old new spec store = (stores_of new ≡ with_opened (stores_of 
 
 -- a failure is counted
 abbrev pub MemoryStoresRefuse : MemoryStores → MemoryStores → OpenRefusal → Type 0
-MemoryStoresRefuse old new Failed = (stores_of new ≡ stores_of old) × (new.names.items ≡ old.names.items)
+MemoryStoresRefuse old new Failed =
+    (stores_of new ≡ stores_of old) × (new.names.items ≡ old.names.items)
     × (old.faults ≤ new.faults) × Rose old.faults new.faults
 MemoryStoresRefuse old new NoMemory = (stores_of new ≡ stores_of old)
     × (new.names.items ≡ old.names.items) × (new.faults ≡ old.faults)
@@ -112,10 +118,12 @@ MemoryStoresRefuse old new NoMemory = (stores_of new ≡ stores_of old)
 -- A store is opened over a disk of this state, and is there from then on.
 abbrev pub BeginsStore : MemoryStores → MemoryStores → StoreSpec → Bool → DiskState
     → Result MemoryStore AllocError → Type 0
-BeginsStore old new spec there disk (Ok store) = (stores_of new ≡ with_opened (stores_of old) spec disk)
+BeginsStore old new spec there disk (Ok store) =
+    (stores_of new ≡ with_opened (stores_of old) spec disk)
     × (new.faults ≡ old.faults) × (new.opens ≡ old.opens) × (store_of store ≡ disk)
     × (new.names.items ≡ (if there then old.names.items else spec.name ∷ old.names.items))
-BeginsStore old new spec there disk (Err e) = (stores_of new ≡ stores_of old) × (new.faults ≡ old.faults)
+BeginsStore old new spec there disk (Err e) =
+    (stores_of new ≡ stores_of old) × (new.faults ≡ old.faults)
     × (new.opens ≡ old.opens) × (new.names.items ≡ old.names.items)
 
 -- An opening fails where the plan says so, where a store is missing that isn't to be made, and where one is open.

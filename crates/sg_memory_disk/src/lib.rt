@@ -23,5 +23,5 @@ pub use disk_plan::DiskPlan;
 pub use laws::images_are_picked;
 pub use pick::Pick;
 pub use plan::FaultPlan;
-pub use stores::{ClosedStore, MemoryStore, MemoryStoreCell, MemoryStores, OpenedStore};
+pub use stores::{ClosedStore, MemoryOpenedStore, MemoryStore, MemoryStoreCell, MemoryStores};
 pub use written::{DiskWrite, TornWrite};

@@ -16,7 +16,7 @@ use std::collections::VecDeque;
 
 /// A store that was opened, and its disk as it was then.
 #[derive(Debug, Drop)]
-pub struct OpenedStore {
+pub struct MemoryOpenedStore {
     pub spec: StoreSpec,
     pub disk: MemoryDisk,
 }
@@ -75,7 +75,7 @@ pub struct MemoryStores {
     pub plans: VecDeque<DiskPlan>,
     // The names of those that are there, the latest first.
     names: Vec<Name>,
-    opened: Vec<OpenedStore>,
+    opened: Vec<MemoryOpenedStore>,
     closed: Option<Box<MemoryStoreCell>>,
     faults: u64,
 }
@@ -197,7 +197,7 @@ impl MemoryStores {
             (λ store. first_plan self.old.plans.items store.disk.calls.plan) }
         ensures quiet { AreDisksQuiet self.old.plans.items → AreDisksQuiet self.new.plans.items }
     {
-        let opened = OpenedStore {
+        let opened = MemoryOpenedStore {
             spec: spec.copy()?,
             disk: disk.copy(alloc)?,
         };
@@ -296,7 +296,10 @@ fn add_name(names: &mut Vec<Name>, name: Name) -> Result<(), AllocError>
 }
 
 // One opened store more. It fails only where there is no room.
-fn add_opened(opened: &mut Vec<OpenedStore>, store: OpenedStore) -> Result<(), AllocError>
+fn add_opened(
+    opened: &mut Vec<MemoryOpenedStore>,
+    store: MemoryOpenedStore,
+) -> Result<(), AllocError>
     ensures ok { OnOk result (opened.new.items ≡ opened.old.items ++ store ∷ []) }
     ensures err { OnErr result (vec_capacity opened.old ≤ vec_len opened.old) }
 {

@@ -2,6 +2,7 @@
 use Rattle.std.proofs.Common.{◌≡◌, ℕ, Bool, true, false, ◌||◌, List, [], ◌∷◌, ◌++◌, bytes_eq, refl, ◌∙◌}
 use Rattle.sg_msg.specs.Message.{Content, has_tag, with_tag, without_tag, AreDistinct, IsMessage}
 use Rattle.sg_msg.proofs.ByteOrder.{test-back}
+use Rattle.std.proofs.lemmas.Bool.{true≢false}
 
 -- neither of two, so not the first, and not the second
 pub or-first : (a b : Bool) → (a || b) ≡ false → a ≡ false
@@ -49,3 +50,7 @@ module _ (tag : List ℕ) where
 
   pub message-without_tag : (content : Content) → IsMessage content → IsMessage (record content { tags = without_tag tag content.tags })
   message-without_tag content is = record { pri = is.pri; sent = is.sent; received = is.received; ascending = is.ascending; names = is.names; tags = distinct-without content.tags is.tags }
+
+pub or_false : (p q : Bool) → p || q ≡ false → (p ≡ false) × (q ≡ false)
+or_false true q e = absurd (true≢false e)
+or_false false q e = (refl, e)

@@ -12,3 +12,6 @@ mod SortedPairs
 mod FirstBytes
 mod KnownNames
 pub mod LengthLemmas
+pub mod OfferLemmas
+pub mod PairWalks
+pub mod TagWalks

@@ -7,13 +7,16 @@ use Rattle.std.specs.List.{list_any}
 unfoldable pub date_macros : List (List ℕ)
 date_macros =
     codes "DATE" ∷ codes "FULLDATE" ∷ codes "ISODATE" ∷ codes "STAMP" ∷ codes "UNIXTIME"
-    ∷ codes "YEAR" ∷ codes "MONTH" ∷ codes "DAY" ∷ codes "HOUR" ∷ codes "MIN" ∷ codes "SEC" ∷ codes "MONTH_ABBREV" ∷ codes "TZOFFSET" ∷ []
+    ∷ codes "YEAR" ∷ codes "MONTH" ∷ codes "DAY" ∷ codes "HOUR" ∷ codes "MIN" ∷ codes "SEC"
+    ∷ codes "MONTH_ABBREV" ∷ codes "TZOFFSET" ∷ []
 
 -- PRI and its parts, the tags, the texts put together of pairs, and the old value of a field
 unfoldable pub other_macros : List (List ℕ)
 other_macros =
-    codes "PRI" ∷ codes "FACILITY_NUM" ∷ codes "LEVEL_NUM" ∷ codes "FACILITY" ∷ codes "LEVEL" ∷ codes "PRIORITY"
-    ∷ codes "SEVERITY" ∷ codes "TAG" ∷ codes "TAGS" ∷ codes "MSGHDR" ∷ codes "SDATA" ∷ codes "_" ∷ []
+    codes "PRI" ∷ codes "FACILITY_NUM" ∷ codes "LEVEL_NUM" ∷ codes "FACILITY" ∷ codes "LEVEL"
+    ∷ codes "PRIORITY"
+    ∷ codes "SEVERITY" ∷ codes "TAG" ∷ codes "TAGS" ∷ codes "MSGHDR" ∷ codes "SDATA" ∷ codes "_"
+    ∷ []
 
 abbrev pub is_any : List (List ℕ) → List ℕ → Bool
 is_any names name = list_any (λ listed. bytes_eq listed name) names

@@ -33,7 +33,8 @@ byte_order = slice_cmp nat_cmp
 -- the value of that name
 abbrev pub value_of : List ℕ → List NameValue → Option (List ℕ)
 value_of name [] = None
-value_of name (pair ∷ pairs) = if bytes_eq pair.name name then Some pair.value else value_of name pairs
+value_of name (pair ∷ pairs) =
+    if bytes_eq pair.name name then Some pair.value else value_of name pairs
 
 -- the pairs with this one in the place of the pair of its name, or before the first greater name
 abbrev pub with_pair : List ℕ → List ℕ → List NameValue → List NameValue
@@ -52,7 +53,8 @@ with_all (pair ∷ others) pairs = with_all others (with_pair pair.name pair.val
 -- the pairs but for that of this name
 abbrev pub without_pair : List ℕ → List NameValue → List NameValue
 without_pair name [] = []
-without_pair name (pair ∷ pairs) = if bytes_eq pair.name name then pairs else pair ∷ without_pair name pairs
+without_pair name (pair ∷ pairs) =
+    if bytes_eq pair.name name then pairs else pair ∷ without_pair name pairs
 
 -- every other name has the value that it had
 abbrev pub KeepsOthers : List ℕ → List NameValue → List NameValue → Type 0

@@ -10,11 +10,11 @@ use std::sync::Arc;
 
 /// The tags in order.
 #[derive(Debug, Drop)]
-struct List {
+struct TagList {
     tags: Vec<Bytes>,
 }
 
-impl Model for List {
+impl Model for TagList {
     ghost use Rattle.std.specs.Prelude.{ℕ, List as Sequence};
 
     ghost Value = { Sequence (Sequence ℕ) };
@@ -22,17 +22,17 @@ impl Model for List {
     ghost view = { λ l. l.tags.items };
 }
 
-impl Clone for List {
+impl Clone for TagList {
     ghost is_clone = { λ list copy. copy ≡ list };
 
-    fn clone(&self) -> Result<List, AllocError> {
-        Ok(List {
+    fn clone(&self) -> Result<TagList, AllocError> {
+        Ok(TagList {
             tags: self.tags.clone()?,
         })
     }
 }
 
-impl List {
+impl TagList {
     fn push(&mut self, tag: Bytes) -> Result<(), AllocError>
         ensures ok { OnOk result (self.new ≡ self.old ++ tag ∷ []) }
         ensures err { OnErr result (self.new ≡ self.old) }
@@ -53,7 +53,7 @@ impl List {
 #[derive(Debug, Drop)]
 pub(crate) struct Tags {
     alloc: Global,
-    list: Option<Arc<List>>,
+    list: Option<Arc<TagList>>,
 }
 
 impl Model for Tags {
@@ -162,10 +162,10 @@ impl Tags {
 }
 
 // A list of one tag.
-fn only(alloc: Global, tag: Bytes) -> Result<Arc<List>, AllocError>
+fn only(alloc: Global, tag: Bytes) -> Result<Arc<TagList>, AllocError>
     ensures { IfOk result (λ list. arc_value list ≡ tag ∷ []) }
 {
-    let mut list = List {
+    let mut list = TagList {
         tags: Vec::new(alloc),
     };
     list.push(tag)?;

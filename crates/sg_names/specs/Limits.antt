@@ -20,7 +20,8 @@ first_line (term ∷ terms) = Some term.line
 
 -- one expression has at most 4,096 calls and comparisons
 abbrev pub large_faults : List ℕ → List Term → List Placed
-large_faults sizes terms = if nat_lt 4096 (terms_size sizes terms) then limit_at (first_line terms) else []
+large_faults sizes terms = if nat_lt 4096 (terms_size sizes terms) then limit_at (first_line terms)
+    else []
 
 abbrev pub part_limits : List ℕ → NameUse → List Placed
 part_limits sizes (part.Expression terms) = large_faults sizes terms

@@ -19,7 +19,8 @@ empty_register = record { places = map.empty; count = 0 }
 -- with a statement more: its name stands for it where no statement before has that name
 abbrev pub entered : Register → Spot → Register
 entered register spot = record {
-  places = if map.contains_key register.places spot.token.text then register.places else map.insert register.places spot.token.text register.count;
+  places = if map.contains_key register.places spot.token.text then register.places
+      else map.insert register.places spot.token.text register.count;
   count = register.count + 1;
 }
 
@@ -36,7 +37,8 @@ registered kind register (statement ∷ statements) = registered kind
 -- "name defined twice": at the name of a statement where one before has it
 abbrev pub repeat_of : Register → Spot → List Placed
 repeat_of register spot =
-    if map.contains_key register.places spot.token.text then (record { kind = DuplicateName; line = spot_line spot }) ∷ [] else []
+    if map.contains_key register.places spot.token.text
+    then (record { kind = DuplicateName; line = spot_line spot }) ∷ [] else []
 
 abbrev pub repeat_if : Register → Option Spot → List Placed
 repeat_if register None = []

@@ -17,7 +17,8 @@ use Rattle.sg_names.specs.declared.reference.Term.{Term}
 use Rattle.sg_names.specs.Registers.{place_in}
 
 abbrev pub reference_of : Names → NameKind → Spot → Reference
-reference_of names kind spot = record { line = spot_line spot; place = place_in names kind spot.token.text }
+reference_of names kind spot =
+    record { line = spot_line spot; place = place_in names kind spot.token.text }
 
 abbrev pub filter_at : Names → Arg-F Arg RawExpr Call → Option Reference
 filter_at names (Arg-F.Item spot) = Some (reference_of names kind.Filter spot)

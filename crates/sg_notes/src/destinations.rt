@@ -3,7 +3,7 @@
 use sg_device::NoMemory;
 use sg_hint::append_shown;
 use sg_lex::Token;
-use sg_listing::{Around, Listing, Location, append_text, has_word, token_at};
+use sg_listing::{Listing, Location, OpenBrackets, append_text, has_word, token_at};
 use sg_parse_base::{is_symbol, is_word};
 use std::alloc::Global;
 
@@ -55,7 +55,7 @@ fn closing_of(tokens: &[Token], opening: usize) -> Option<usize> {
 }
 
 // Whether a driver of a destination begins at this place.
-fn is_driver(tokens: &[Token], at: usize, around: &Around) -> bool {
+fn is_driver(tokens: &[Token], at: usize, around: &OpenBrackets) -> bool {
     let (Some(word), Some(opening), Some(object), Some(outer)) = (
         tokens.get(at),
         tokens.get(at.saturating_add(1)),
@@ -88,7 +88,7 @@ fn name_before(tokens: &[Token], opening: usize) -> &[u8] {
     b""
 }
 
-fn append_name(tokens: &[Token], around: &Around, out: &mut Vec<u8>) -> Result<(), NoMemory> {
+fn append_name(tokens: &[Token], around: &OpenBrackets, out: &mut Vec<u8>) -> Result<(), NoMemory> {
     let name = match around.opening(0) {
         Some(opening) => name_before(tokens, opening),
         None => b"",
@@ -144,7 +144,7 @@ fn append_destination(
     alloc: Global,
     listing: &Listing,
     at: usize,
-    around: &Around,
+    around: &OpenBrackets,
     number: u32,
     out: &mut Vec<u8>,
 ) -> Result<(), NoMemory> {
@@ -159,7 +159,7 @@ fn append_destination(
 /// A line for each driver of a destination, in the order of their numbers: the name of its statement, and the driver as it is written.
 pub fn destinations_text(alloc: Global, listing: &Listing) -> Result<Vec<u8>, NoMemory> {
     let tokens = listing.tokens();
-    let mut around = Around::new(alloc);
+    let mut around = OpenBrackets::new(alloc);
     let mut number = 0u32;
     let mut out = Vec::new(alloc);
     for at in 0..tokens.len() {

@@ -6,6 +6,7 @@ use sg_hint::{Numbered, fault_again};
 use sg_lex::{ConfigFault, Token};
 use sg_listing::{Location, Span, is_same_name, name_of, spans};
 use sg_parse_base::is_symbol;
+use sg_pattern::Patterns;
 use std::alloc::Global;
 
 /// How many faults are told at most, the first one among them.
@@ -24,11 +25,15 @@ pub struct Further {
 }
 
 /// What is wrong with the tokens first, where there are so few that a fault's line can be the number of each.
-pub fn fault_of(alloc: Global, tokens: &[Token]) -> Result<Option<ConfigFault>, NoMemory> {
+pub fn fault_of(
+    alloc: Global,
+    patterns: &mut Patterns,
+    tokens: &[Token],
+) -> Result<Option<ConfigFault>, NoMemory> {
     if tokens.len() > u32::MAX as usize {
         return Ok(None);
     }
-    fault_again(alloc, tokens)
+    fault_again(alloc, patterns, tokens)
 }
 
 // The place of the token with this number.
@@ -226,9 +231,10 @@ pub fn further_faults(alloc: Global, list: Numbered) -> Result<Vec<Further>, NoM
         count: _,
     } = list;
     let mut tokens = tokens;
+    let mut patterns = Patterns::new(alloc);
     let mut found = Vec::new(alloc);
     for _turn in 0..MOST {
-        let Some(fault) = fault_of(alloc, &tokens)? else {
+        let Some(fault) = fault_of(alloc, &mut patterns, &tokens)? else {
             break;
         };
         let Some(at) = place_of(&tokens, fault.line) else {

@@ -1,6 +1,8 @@
 // Which `@include` wanted a file that couldn't be read.
 ghost use Rattle.sg_outside.specs.World.{OnlyReads};
 
+use crate::plain::append_remedy;
+use crate::remedies::library_remedy;
 use sg_device::{Name, NoMemory};
 use sg_hint::{Numbered, read};
 use sg_lex::{LexFault, TEXT_LIMIT, Token, TokenKind, tokens};
@@ -32,12 +34,16 @@ fn is_include(token: &Token) -> bool {
     }
 }
 
-// The name that an `@include` at this place asks for.
+// The name that an `@include` at this place asks for, if it is written without variables.
 fn included_at(found: &[Token], at: usize) -> Option<&[u8]> {
     if !is_include(found.get(at)?) {
         return None;
     }
-    Some(found.get(at.saturating_add(1))?.text.bytes())
+    let name = found.get(at.saturating_add(1))?.text.bytes();
+    if name.contains(&b'`') {
+        return None;
+    }
+    Some(name)
 }
 
 fn is_listed(names: &[Name], name: &[u8]) -> bool {
@@ -103,6 +109,7 @@ fn note_at(
     names: Seq<Name>,
     texts: Vec<Vec<u8>>,
     at: Location,
+    wanted: &[u8],
 ) -> Result<Vec<u8>, NoMemory> {
     let listing = Listing {
         list: Numbered {
@@ -115,6 +122,9 @@ fn note_at(
     };
     let mut out = Vec::new(alloc);
     append_at(alloc, &listing, at, b"note: it is included here", &mut out)?;
+    if let Some(remedy) = library_remedy(wanted) {
+        append_remedy(wanted, remedy, &mut out)?;
+    }
     Ok(out)
 }
 
@@ -143,7 +153,7 @@ pub fn include_note<F: Files>(
         let found = tokens_of(alloc, number as u32, &text)?;
         texts.push(text)?;
         if let Some(at) = location_of(&found, wanted) {
-            return Ok(Some(note_at(alloc, names, texts, at)?));
+            return Ok(Some(note_at(alloc, names, texts, at, wanted)?));
         }
         list_included(alloc, &found, &mut names)?;
     }

@@ -5,12 +5,14 @@
 mod destinations;
 mod further;
 mod included;
+mod limits;
 mod missing;
 mod noting;
 mod opened;
 mod plain;
 mod ranges;
 mod remedies;
+mod sources;
 mod telling;
 mod twice;
 

@@ -4,10 +4,12 @@ use crate::further::fault_of;
 use crate::opened::{long_string, long_string_before, unclosed_at, unended_before};
 use crate::plain::{append_plain, append_remedy};
 use crate::remedies::{include_remedy, version_remedy};
+use crate::sources::append_sources;
 use crate::twice::first_place;
 use sg_device::NoMemory;
 use sg_lex::{ConfigFault, ConfigKind, LexFault, TEXT_LIMIT, Token, tokens};
 use sg_listing::{Listing, Location, append_at, spans};
+use sg_pattern::Patterns;
 use std::alloc::{AllocError, Global};
 
 // The place of the token of the fault, where the files have one of its kind and file first again.
@@ -16,7 +18,8 @@ fn place_of(
     listing: &Listing,
     fault: &ConfigFault,
 ) -> Result<Option<usize>, NoMemory> {
-    match fault_of(alloc, listing.tokens())? {
+    let mut patterns = Patterns::new(alloc);
+    match fault_of(alloc, &mut patterns, listing.tokens())? {
         Some(again) => if again.kind == fault.kind && again.file == fault.file {
             Ok(Some((again.line as usize).saturating_sub(1)))
         } else {
@@ -164,9 +167,32 @@ fn append_stopped(
     }
 }
 
+// Whether it is log paths that are refused so: their notes ask for no place, and no pattern is made again to find it.
+fn is_of_paths(kind: ConfigKind) -> bool {
+    match kind {
+        ConfigKind::BadPattern => true,
+        ConfigKind::PatternTooLarge => true,
+        ConfigKind::TooManyOffers => true,
+        _ => false,
+    }
+}
+
+// Whether it is the source of a trace that isn't there.
+fn is_of_trace(fault: &ConfigFault) -> bool {
+    fault.line == 0 && fault.kind == ConfigKind::UnknownName
+}
+
 /// The notes beside the first fault of a configuration, behind its hint; the empty text where there are none.
 pub fn notes(alloc: Global, listing: &Listing, fault: &ConfigFault) -> Result<Vec<u8>, NoMemory> {
     let mut out = Vec::new(alloc);
+    if is_of_paths(fault.kind) {
+        append_plain(listing.tokens(), fault.kind, 0, &mut out)?;
+        return Ok(out);
+    }
+    if is_of_trace(fault) {
+        append_sources(alloc, listing.tokens(), &mut out)?;
+        return Ok(out);
+    }
     if listing.tokens().is_empty() {
         append_stopped(alloc, listing, fault, &mut out)?;
         return Ok(out);

@@ -1,5 +1,6 @@
 // Notes that show no other place.
 
+use crate::limits::{limit_at, offers_limit, patterns_limit};
 use crate::missing::missing_at;
 use crate::ranges::{is_catchall, range_of};
 use crate::remedies::{compared_remedy, quoted_remedy, remedy_at};
@@ -85,6 +86,9 @@ pub fn append_plain(
         ConfigKind::MissingOption => append_missing(tokens, at, out),
         ConfigKind::Unsupported => append_remedy_at(tokens, at, out),
         ConfigKind::Function => append_remedy(b"$(..)", b"nothing", out),
+        ConfigKind::Limit => append_words(limit_at(tokens, at), b"", out),
+        ConfigKind::TooManyOffers => append_words(offers_limit(), b"", out),
+        ConfigKind::PatternTooLarge => append_words(patterns_limit(), b"", out),
         _ => Ok(()),
     }
 }

@@ -12,12 +12,15 @@ wildcard-file|a `file()` for each
 usertty program pipe|nothing; a terminal is `file(\"/dev/tty10\")`
 sql http mongodb|nothing
 internal|standard error
-netmask in-list|`host(\"^10\\\\.\")`, several with `or`
+netmask in-list|`host(\"^10\\\\.\")`, several with `or`, of sources with `keep-hostname(no)`, where HOST is the peer's address
 posix|`type(\"pcre\")`; in front of the pattern `(?s)` and its kin, of the `regex` crate's grammar
 set-facility set-severity set-pri|nothing: PRI and timestamps of a message aren't changed
 rename set-matches map-value-pairs fix-time-zone rate-limit|nothing
 db-parser grouping-by json-parser|nothing
-template-escape|`template-escape(no)`, or nothing
+template-escape|nothing, or `template-escape(no)` in the braces of a template statement
+program-override host-override|a rewrite, as `set(\"P\" value(\"PROGRAM\"))`, `set(\"H\" value(\"HOST\"))`
+quote-pairs dialect escape-double-char escape-none escape-backslash|nothing: `\"` alone quotes
+strip-whitespace|nothing: blanks are part of a field
 reliable|`reliable(yes)`, and a size: both are required";
 
 /// Comparisons of syslog-ng.
@@ -28,6 +31,10 @@ const VERSION: &[u8] = b"`@version: 4.2`";
 const QUOTED: &[u8] = b"the number, `yes`, `no`, without quotes";
 /// Included files by a pattern.
 const INCLUDED: &[u8] = b"each file by its name";
+/// The library of syslog-ng, and its name.
+const LIBRARY: &[u8] = b"nothing: what is used of it is written out";
+
+const LIBRARY_NAME: &[u8] = b"scl.conf";
 
 // What goes in the place of a word.
 fn remedy_of(token: &Token) -> Option<(&[u8], &'static [u8])> {
@@ -89,4 +96,12 @@ pub fn version_remedy() -> &'static [u8] {
 
 pub fn include_remedy() -> &'static [u8] {
     INCLUDED
+}
+
+/// What goes in the place of an included file of this name, where it is the library of syslog-ng.
+pub fn library_remedy(name: &[u8]) -> Option<&'static [u8]> {
+    if name == LIBRARY_NAME {
+        return Some(LIBRARY);
+    }
+    None
 }

@@ -3,7 +3,7 @@
 use crate::missing::holds;
 use sg_device::NoMemory;
 use sg_lex::Token;
-use sg_listing::{Around, Span, is_same_name, name_of, token_at};
+use sg_listing::{OpenBrackets, Span, is_same_name, name_of, token_at};
 use sg_parse_base::{is_keyword, is_symbol, same_keyword};
 use std::alloc::Global;
 
@@ -73,14 +73,14 @@ fn is_same_store(tokens: &[Token], at: usize, other: usize) -> bool {
 
 // What holds the token of this place: the kind of its statement, or of the body in its place.
 fn object_of(alloc: Global, tokens: &[Token], at: usize) -> Result<Option<&[u8]>, NoMemory> {
-    let mut around = Around::new(alloc);
+    let mut around = OpenBrackets::new(alloc);
     for place in 0..at.min(tokens.len()) {
         around.pass(&tokens[place], place)?;
     }
     Ok(around.object(tokens))
 }
 
-fn is_in(around: &Around, tokens: &[Token], object: Option<&[u8]>) -> bool {
+fn is_in(around: &OpenBrackets, tokens: &[Token], object: Option<&[u8]>) -> bool {
     match (around.object(tokens), object) {
         (Some(one), Some(other)) => same_keyword(one, other),
         _ => false,
@@ -90,7 +90,7 @@ fn is_in(around: &Around, tokens: &[Token], object: Option<&[u8]>) -> bool {
 // The place of the first driver with the store of this one.
 fn first_driver(alloc: Global, tokens: &[Token], at: usize) -> Result<Option<usize>, NoMemory> {
     let object = object_of(alloc, tokens, at)?;
-    let mut around = Around::new(alloc);
+    let mut around = OpenBrackets::new(alloc);
     for place in 0..at.min(tokens.len()) {
         if is_same_store(tokens, at, place) && is_in(&around, tokens, object) {
             return Ok(Some(place));

@@ -66,10 +66,12 @@ failing_in fails i next sinks (c ∷ cs) = failing_at fails sinks c.offer
 
 -- a destination with its room behind an offer with this block and verdict, or behind one of a batch
 abbrev pub spent : Bool → ℕ → ℕ → Offer → Option (List ℕ) → Verdict → Sunk → Sunk
-spent fail i number offer block verdict sink = record { seen = offered fail i number offer block verdict sink.seen; room = sink.room - 1 }
+spent fail i number offer block verdict sink =
+    record { seen = offered fail i number offer block verdict sink.seen; room = sink.room - 1 }
 
 abbrev pub spent_by : List Bool → ℕ → ℕ → Claim → Sunk → Sunk
-spent_by fails i next c sink = record { seen = offered_by fails i next c sink.seen; room = sink.room - 1 }
+spent_by fails i next c sink =
+    record { seen = offered_by fails i next c sink.seen; room = sink.room - 1 }
 
 abbrev pub spent_then : List Bool → ℕ → ℕ → List Sunk → Claim → List Sunk
 spent_then fails i next sinks c = change sinks c.offer.dest (spent_by fails i next c)
@@ -82,7 +84,8 @@ spent_after fails i next sinks (c ∷ cs) = spent_after fails i next (spent_then
 -- records with these verdicts of their offers, each with the acknowledgements that it needs
 abbrev pub begun_of : List Admission → List Verdict → List BegunRecord
 begun_of [] vs = []
-begun_of (r ∷ rs) vs = record { end = r.end; left = owing r.offers (take (length r.offers) vs) } ∷ begun_of rs (drop (length r.offers) vs)
+begun_of (r ∷ rs) vs = record { end = r.end; left = owing r.offers (take (length r.offers) vs) }
+    ∷ begun_of rs (drop (length r.offers) vs)
 
 -- the payloads, of which there may be more, have the blocks of these offers, in order
 abbrev pub AreBlocks : ℕ → List (Option BufferSetup) → List Claim → List Payload → Type 0

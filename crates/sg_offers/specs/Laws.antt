@@ -16,7 +16,8 @@ use Rattle.sg_offers.specs.Batches.{sinks_at, buffer_in, AreSplit}
 
 -- The verdicts are right where just the stores that are said to fail do so, and what is kept is that of the machine's
 -- destinations. The stores that fail are those of the destinations for which it was said.
-pub record Judged (fails : List Bool) (i next : ℕ) (dests : List Dest) (failed : List ℕ) (claims : List Claim) (vs : List Verdict) (newly : List ℕ) : Type 0 where
+pub record Judged (fails : List Bool) (i next : ℕ) (dests : List Dest) (failed : List ℕ)
+    (claims : List Claim) (vs : List Verdict) (newly : List ℕ) : Type 0 where
   pub right : judged i next newly dests failed claims vs ≡ Some (failed ++ newly)
   pub seen : sinks_at (failed ++ newly) (take_claims i next dests claims vs)
       ≡ sinks_after fails i next (sinks_at failed dests) claims
@@ -34,14 +35,16 @@ JudgedAll fails i next dests failed claims =
     (failing_in fails i next sinks claims)
 
 -- what the disk-buffer of d takes is what the machine would spool there, and it fits
-pub record Tried (i next : ℕ) (dests : List Dest) (failed : List ℕ) (claims : List Claim) (d : ℕ) (dest : Dest) (buffer : BufferSetup) : Type 0 where
+pub record Tried (i next : ℕ) (dests : List Dest) (failed : List ℕ) (claims : List Claim) (d : ℕ)
+    (dest : Dest) (buffer : BufferSetup) : Type 0 where
   pub taken : taken_at d i claims (payloads_of i (sinks_at failed dests) claims)
       ≡ would_spool d i next buffer dest claims
   pub fits : FitAll buffer.capacity (space (lengths_of dest.left))
       (would_spool d i next buffer dest claims)
 
 -- what records need, once those of the batch are in, the first of which has the number `next`
-pub record BegunRecords (i next : ℕ) (dests : List Dest) (records : List Admission) (vs : List Verdict) : Type 0 where
+pub record BegunRecords (i next : ℕ) (dests : List Dest) (records : List Admission)
+    (vs : List Verdict) : Type 0 where
   pub others : (j n : ℕ) → j ≢ i
       → owed (take_claims i next dests (claims_of records) vs) j n ≡ owed dests j n
   pub before : (n : ℕ) → n < next

@@ -73,7 +73,8 @@ payloads_of i sinks claims = payloads_from i (buffers_of sinks) (map trial_in si
 abbrev pub taken_at : ℕ → ℕ → List Claim → List Payload → List BufferedEntry
 taken_at d i [] ps = []
 taken_at d i (c ∷ cs) [] = []
-taken_at d i (c ∷ cs) (p ∷ ps) = if p.dest == d && p.taken then kept_from i c ∷ taken_at d i cs ps else taken_at d i cs ps
+taken_at d i (c ∷ cs) (p ∷ ps) =
+    if p.dest == d && p.taken then kept_from i c ∷ taken_at d i cs ps else taken_at d i cs ps
 
 -- each of these entries fits behind the ones before, where so much is taken before the first
 abbrev pub FitAll : ℕ → ℕ → List BufferedEntry → Type 0
@@ -95,7 +96,8 @@ AreSmall buffers = (d : ℕ) (buffer : BufferSetup) → buffer_at buffers d ≡ 
 
 -- where the payload is taken, its block is that of the offer's entry
 abbrev pub IsPayloadSpelled : ℕ → Claim → Payload → Type 0
-IsPayloadSpelled i c p = p.taken ≡ true → (p.block ≡ Some (spelling2 (kept_of_offer i c.end c.offer)))
+IsPayloadSpelled i c p = p.taken ≡ true
+    → (p.block ≡ Some (spelling2 (kept_of_offer i c.end c.offer)))
     × IsSpellable (kept_of_offer i c.end c.offer)
 
 abbrev pub ArePayloadsSpelled : ℕ → List Claim → List Payload → Type 0

@@ -30,7 +30,8 @@ HaveRoom sinks claims = (d : ℕ) (sink : Sunk) → slice_get sinks d ≡ Some s
     → given_to d claims ≤ sink.room
 
 -- there is no answer yet, and room for that of each record and of each offer
-pub record IsBatchReady (records : List Admission) (sinks : List Sunk) (answers : BatchVerdicts) : Type 0 where
+pub record IsBatchReady (records : List Admission) (sinks : List Sunk)
+    (answers : BatchVerdicts) : Type 0 where
   pub room : HaveRoom sinks (claims_of records)
   pub no_verdict : answers.verdicts.items ≡ []
   pub none_begun : answers.begun.items ≡ []

@@ -66,7 +66,8 @@ pub fn prepare(
     ensures payloads { IfOk result (λ batch. batch.payloads.items
         ≡ payloads_of inlet (seen_in sinks.old) (claims_of records.now)) }
     ensures spelled { AreSmall (buffers_of (seen_in sinks.old))
-        → IfOk result (λ batch. ArePayloadsSpelled inlet (claims_of records.now) batch.payloads.items) }
+        → IfOk result (λ batch. ArePayloadsSpelled inlet (claims_of records.now)
+        batch.payloads.items) }
     ensures kept { IfOk result
         (λ _. AllSpellable inlet (buffers_of (seen_in sinks.old)) (claims_of records.now)) }
     ensures fails { IfOk result (λ batch. batch.fails.items ≡ map (λ _. false) sinks.old) }

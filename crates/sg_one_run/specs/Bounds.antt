@@ -65,9 +65,11 @@ abbrev pub recovered_at : {R I O : Type 0} (feed : I → InletState) (drain : O 
     (core : Option CoreRun) (ending : PlanEnded)
     → PlanRunHolds feed drain offers inlets dests files plan routers rounds reached core ending → ℕ
 recovered_at feed drain offers inlets dests files plan routers rounds reached None ending holds = 0
-recovered_at feed drain offers inlets dests files plan routers rounds reached (Some run) (Before early) (holds, stays) =
+recovered_at feed drain offers inlets dests files plan routers rounds reached (Some run)
+    (Before early) (holds, stays) =
     recovered_in plan reached run (holds.core).opens
-recovered_at feed drain offers inlets dests files plan routers rounds reached (Some run) (Ran ended counts) (holds, served) =
+recovered_at feed drain offers inlets dests files plan routers rounds reached (Some run)
+    (Ran ended counts) (holds, served) =
     recovered_in plan reached run (holds.core).opens
 
 abbrev pub offered_at : {R I O : Type 0} (feed : I → InletState) (drain : O → OutletState)
@@ -76,24 +78,30 @@ abbrev pub offered_at : {R I O : Type 0} (feed : I → InletState) (drain : O �
     (core : Option CoreRun) (ending : PlanEnded)
     → PlanRunHolds feed drain offers inlets dests files plan routers rounds reached core ending → ℕ
 offered_at feed drain offers inlets dests files plan routers rounds reached None ending holds = 0
-offered_at feed drain offers inlets dests files plan routers rounds reached (Some run) (Before early) holds =
+offered_at feed drain offers inlets dests files plan routers rounds reached (Some run)
+    (Before early) holds =
     0
-offered_at feed drain offers inlets dests files plan routers rounds reached (Some run) (Ran ended counts) (holds, served) =
+offered_at feed drain offers inlets dests files plan routers rounds reached (Some run)
+    (Ran ended counts) (holds, served) =
     offered_in run.made
 
 abbrev pub recovered_by : {R I O : Type 0} {feed : I → InletState} {drain : O → OutletState}
     {offers : R → ℕ → Record → List Offer → Type 0} {inlets dests : R → ℕ} {old new : WorldState}
     {plan : RunPlan} {routers : List R} {rounds : ℕ} {ending : PlanEnded}
-    {reached : Reached} → RunsWith feed drain offers inlets dests old new plan routers rounds ending reached → ℕ
-recovered_by {R} {I} {O} {feed} {drain} {offers} {inlets} {dests} {old} {new} {plan} {routers} {rounds} {ending} {reached} runs =
+    {reached : Reached} → RunsWith feed drain offers inlets dests old new plan routers rounds ending
+    reached → ℕ
+recovered_by {R} {I} {O} {feed} {drain} {offers} {inlets} {dests} {old} {new} {plan} {routers}
+    {rounds} {ending} {reached} runs =
     recovered_at feed drain offers inlets dests old.files plan routers rounds reached reached.core
     ending runs.holds
 
 abbrev pub offered_by : {R I O : Type 0} {feed : I → InletState} {drain : O → OutletState}
     {offers : R → ℕ → Record → List Offer → Type 0} {inlets dests : R → ℕ} {old new : WorldState}
     {plan : RunPlan} {routers : List R} {rounds : ℕ} {ending : PlanEnded}
-    {reached : Reached} → RunsWith feed drain offers inlets dests old new plan routers rounds ending reached → ℕ
-offered_by {R} {I} {O} {feed} {drain} {offers} {inlets} {dests} {old} {new} {plan} {routers} {rounds} {ending} {reached} runs =
+    {reached : Reached} → RunsWith feed drain offers inlets dests old new plan routers rounds ending
+    reached → ℕ
+offered_by {R} {I} {O} {feed} {drain} {offers} {inlets} {dests} {old} {new} {plan} {routers}
+    {rounds} {ending} {reached} runs =
     offered_at feed drain offers inlets dests old.files plan routers rounds reached reached.core
     ending runs.holds
 
@@ -130,7 +138,8 @@ pub record AreRoundsFew (recovered offered rounds : ℕ) (reached : Reached) : T
 abbrev pub IsFew : (recovered offered rounds : ℕ) → Reached → PlanEnded → Type 0
 IsFew recovered offered rounds reached (Before early) = Unit {0}
 IsFew recovered offered rounds reached (Ran Quiet counts) = Unit {0}
-IsFew recovered offered rounds reached (Ran RoundsSpent counts) = AreRoundsFew recovered offered rounds
+IsFew recovered offered rounds reached (Ran RoundsSpent counts) =
+    AreRoundsFew recovered offered rounds
     reached
 IsFew recovered offered rounds reached (Ran NoMemory counts) = Unit {0}
 

@@ -27,6 +27,7 @@ abbrev pub TakesByPath : RunPlan → Reached → CoreRun → State → List Even
 TakesByPath plan reached run start events =
     (d : ℕ) (outlet : OutletPlan) (opener : PathsState) (first last : Dest)
     → slice_get plan.outlets.items d ≡ Some outlet
-    → slice_get reached.openers d ≡ Some (Some opener) → IsDestThroughout start [] events d first last
+    → slice_get reached.openers d ≡ Some (Some opener)
+    → IsDestThroughout start [] events d first last
     → IsBufferTold run.first.stores first.setup.buffer → IfSome opener.taken
     (AreByPath outlet (map (λ e. e.message) (drop (length first.settled) last.settled)))

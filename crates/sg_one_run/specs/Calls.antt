@@ -41,7 +41,8 @@ sum (n ∷ ns) = n + sum ns
 
 -- These calls were made, in this order, and are these events: the core, which stood for the events before them, stands for them too,
 -- and the rows of its timetable so far stay.
-pub record Ran (old new : CoreState) (made : List Exchange) (start : State) (before events : List Event) : Type 0 where
+pub record Ran (old new : CoreState) (made : List Exchange) (start : State)
+    (before events : List Event) : Type 0 where
   pub makes : Makes Serves old made new
   pub stood : StandsFor old start before
   pub acts : map (λ e. e.act) events ≡ acts_of made

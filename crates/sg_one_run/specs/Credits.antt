@@ -16,7 +16,8 @@ use Rattle.sg_one_run.specs.Calls.{Ran}
 abbrev pub asked_then_brought : (i credit : ℕ) → List Admission → Result (List Verdict) Refused
     → List Exchange
 asked_then_brought i credit records answer =
-    record { call = Credit i; reply = CreditReply credit } ∷ record { call = Admit i records; reply = Admitted answer } ∷ []
+    record { call = Credit i; reply = CreditReply credit }
+    ∷ record { call = Admit i records; reply = Admitted answer } ∷ []
 
 -- whatever others call in between, a source that brings no more records than it was told isn't refused for lack of credit
 abbrev pub CreditLasts : Type 0

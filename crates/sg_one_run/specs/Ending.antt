@@ -31,13 +31,15 @@ use Rattle.sg_run_plan.specs.declared.plan.RunPlan.{RunPlan}
 use Rattle.sg_one_run.specs.Resting.{brought_by, AreRecordsWhole}
 
 -- The inlet has ended, and all its whole items came in; where it is read by lines and tells what is left, nothing is.
-pub record IsEnded (offers : ℕ → Record → List Offer → Type 0) (plan : InletPlan) (setup : SourceSetup) (i : ℕ) (closed : InletState) (made : List Exchange) : Type 0 where
+pub record IsEnded (offers : ℕ → Record → List Offer → Type 0) (plan : InletPlan)
+    (setup : SourceSetup) (i : ℕ) (closed : InletState) (made : List Exchange) : Type 0 where
   pub ended : closed.ended ≡ true
   pub whole : AreRecordsWhole offers plan setup.store i closed (brought_by i made)
   pub nothing_left : plan.kind ≡ Lines → HasNothingLeft closed
 
 -- these calls were made in the rounds, and leave this
-pub record EndsRounds {R : Type 0} (offers : R → ℕ → Record → List Offer → Type 0) (plan : RunPlan) (routers : List R) (reached : Reached) (run : CoreRun) (made : List Exchange) : Type 0 where
+pub record EndsRounds {R : Type 0} (offers : R → ℕ → Record → List Offer → Type 0) (plan : RunPlan)
+    (routers : List R) (reached : Reached) (run : CoreRun) (made : List Exchange) : Type 0 where
   pub makes : Makes Serves run.begun made run.last
   pub inlets : (i : ℕ) (inlet : InletPlan) (setup : SourceSetup) (router : R) (closed : InletState)
       → slice_get plan.inlets.items i ≡ Some inlet → slice_get plan.setup.sources i ≡ Some setup

@@ -19,13 +19,15 @@ use Rattle.sg_one_run.specs.Calls.{settled_in, sum, Ran}
 use Rattle.sg_one_run.specs.Turns.{Sending, AreSendings, calls_in, shown_then_settled}
 
 -- They are settled, and where the store of the disk-buffer tells its bytes they are those that were shown.
-pub record SettlesShown (stores : List StoreState) (first last : Dest) (place n : ℕ) (messages : List Content) (answer : Settled) : Type 0 where
+pub record SettlesShown (stores : List StoreState) (first last : Dest) (place n : ℕ)
+    (messages : List Content) (answer : Settled) : Type 0 where
   pub settles : answer ≢ NotFront
   pub shown : IsBufferTold stores first.setup.buffer
       → map (λ e. e.message) (take n (drop place last.settled)) ≡ take n messages
 
 -- The outlet took as many frames as entries were settled; and where the store of the disk-buffer tells its bytes, just the frames of these.
-pub record TakesSettled (frame : Content → List ℕ) (stores : List StoreState) (first last : Dest) (drain drain' : OutletState) : Type 0 where
+pub record TakesSettled (frame : Content → List ℕ) (stores : List StoreState) (first last : Dest)
+    (drain drain' : OutletState) : Type 0 where
   pub count : drain'.count + length first.settled ≡ drain.count + length last.settled
   pub told : IsBufferTold stores first.setup.buffer → drain'.taken
       ≡ option_map
@@ -41,7 +43,8 @@ ShowsTaken first d made =
     → answer ≢ NotFront → count ≡ first + sum (settled_in (calls_by (OfDest d) before)) + n
 
 -- d before the events and behind them
-pub record IsDestThroughout (start : State) (before events : List Event) (d : ℕ) (first last : Dest) : Type 0 where
+pub record IsDestThroughout (start : State) (before events : List Event) (d : ℕ)
+    (first last : Dest) : Type 0 where
   pub at_first : slice_get (after_all start before).dests d ≡ Some first
   pub at_last : slice_get (after_all start (before ++ events)).dests d ≡ Some last
 

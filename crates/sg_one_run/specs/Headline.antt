@@ -61,8 +61,10 @@ abbrev pub TakesPrefixes : {R : Type 0} → (R → ℕ → Record → List Offer
 TakesPrefixes {R} offers plan routers reached start events =
     (i d : ℕ) (inlet : InletPlan) (router : R) (closed : InletState) (first last : Dest)
     → slice_get plan.inlets.items i ≡ Some inlet → slice_get routers i ≡ Some router
-    → slice_get reached.inlets_closed i ≡ Some closed → IsDestThroughout start [] events d first last
-    → TakesFirstTexts (offers router) (frame_at plan.outlets.items) i d (records_of inlet closed) events
+    → slice_get reached.inlets_closed i ≡ Some closed
+    → IsDestThroughout start [] events d first last
+    → TakesFirstTexts (offers router) (frame_at plan.outlets.items) i d (records_of inlet closed)
+    events
     (taken_from (frame_at plan.outlets.items) i d first last) last.left
 
 -- takes: since its outlet was opened, that took the frames of the entries settled, no more and no fewer
@@ -81,7 +83,9 @@ ShowsAccepted reached run = (d : ℕ) (new : OutletState) → slice_get reached.
 
 -- The sentence, over the events from a start on.
 
-pub record HeadlineOf {R : Type 0} (offers : R → ℕ → Record → List Offer → Type 0) (plan : RunPlan) (routers : List R) (reached : Reached) (run : CoreRun) (start : State) (events : List Event) : Type 0 where
+pub record HeadlineOf {R : Type 0} (offers : R → ℕ → Record → List Offer → Type 0) (plan : RunPlan)
+    (routers : List R) (reached : Reached) (run : CoreRun) (start : State)
+    (events : List Event) : Type 0 where
   pub texts : TakesPrefixes offers plan routers reached start events
   pub taken : TakesThese plan reached run start events
   -- each text goes to the file that its message names, where messages do
@@ -115,7 +119,8 @@ pub record HeadlineOf {R : Type 0} (offers : R → ℕ → Record → List Offer
 
 -- Every interleaving: the events are those of the sources that begin anew, and then those of the calls, in the order in which the core
 -- served them; they begin with what the stores had.
-pub record Headline {R : Type 0} (offers : R → ℕ → Record → List Offer → Type 0) (plan : RunPlan) (routers : List R) (reached : Reached) (run : CoreRun) : Type 0 where
+pub record Headline {R : Type 0} (offers : R → ℕ → Record → List Offer → Type 0) (plan : RunPlan)
+    (routers : List R) (reached : Reached) (run : CoreRun) : Type 0 where
   pub opens : IsOpen plan.setup reached.stores run.first
   pub later : List Event
   pub ran : Ran run.begun run.last run.made (opened plan.setup opens.opening) run.prelude later

@@ -37,7 +37,8 @@ TextsAreFirst offers =
     → IsDestThroughout start before events d first last
     → (frame : ℕ → Content → List ℕ) (spec : SourceSpec) (done : List Record) (dests ups : ℕ)
     (s : SourceState) → AreOf offers spec done (admitted_in (calls_by (OfSource spec.inlet) made))
-    → IsReady dests spec s → HasRead offers spec s done ups → TakesFirstTexts offers frame spec.inlet d
+    → IsReady dests spec s → HasRead offers spec s done ups
+    → TakesFirstTexts offers frame spec.inlet d
     (records_given spec s.feed) events (taken_from frame spec.inlet d first last) last.left
 
 -- after every prefix of the events no more records are outstanding than the windows have

@@ -38,17 +38,27 @@ brought_by i made = admitted_in (calls_by (OfSource i) made)
 
 -- how the source of an inlet of the plan is set up
 abbrev pub spec_for : InletPlan → Option ℕ → ℕ → ℕ → SourceSpec
-spec_for plan store i from = record { inlet = i; kind = plan.kind; limit = plan.limit; fetch = plan.fetch; from = from; stored = is_some store }
+spec_for plan store i from = record {
+  inlet = i;
+  kind = plan.kind;
+  limit = plan.limit;
+  fetch = plan.fetch;
+  from = from;
+  stored = is_some store;
+}
 
 -- The records that came in are all that the inlet gave, in order, each with its end and its offers, where the inlet tells what it gave.
-abbrev pub AreRecordsWhole : (ℕ → Record → List Offer → Type 0) → InletPlan → Option ℕ → ℕ → InletState
+abbrev pub AreRecordsWhole : (ℕ → Record → List Offer → Type 0) → InletPlan → Option ℕ → ℕ
+    → InletState
     → List Admission → Type 0
 AreRecordsWhole offers plan store i closed brought =
     IfSome (option_map (records plan.kind plan.limit closed.from) closed.told)
     (λ given. AreOf offers (spec_for plan store i closed.from) given brought)
 
 -- The inlet has ended or failed, and all its whole items came in.
-pub record IsInletDone (offers : ℕ → Record → List Offer → Type 0) (plan : InletPlan) (store : Option ℕ) (i : ℕ) (opened closed : InletState) (brought : List Admission) : Type 0 where
+pub record IsInletDone (offers : ℕ → Record → List Offer → Type 0) (plan : InletPlan)
+    (store : Option ℕ) (i : ℕ) (opened closed : InletState)
+    (brought : List Admission) : Type 0 where
   pub over : (closed.ended ≡ true) ⊎ Rose opened.faults closed.faults
   pub whole : AreRecordsWhole offers plan store i closed brought
 
@@ -57,8 +67,11 @@ abbrev pub HasNoCredit : CoreState → ℕ → Type 0
 HasNoCredit core i = (state : State) → IsAt core state → credit_left state i ≡ 0
 
 -- The inlet is done, or there is no credit. The stored position is the mark, where the store works.
-pub record SourceRestsAtEnd (offers : ℕ → Record → List Offer → Type 0) (plan : InletPlan) (setup : SourceSetup) (core : CoreState) (i : ℕ) (opened closed : InletState) (made : List Exchange) : Type 0 where
-  pub over : IsInletDone offers plan setup.store i opened closed (brought_by i made) ⊎ HasNoCredit core i
+pub record SourceRestsAtEnd (offers : ℕ → Record → List Offer → Type 0) (plan : InletPlan)
+    (setup : SourceSetup) (core : CoreState) (i : ℕ) (opened closed : InletState)
+    (made : List Exchange) : Type 0 where
+  pub over : IsInletDone offers plan setup.store i opened closed (brought_by i made)
+      ⊎ HasNoCredit core i
   pub stored : (state : State) (inlet : InletRecords) (s : ℕ) → IsAt core state
       → slice_get state.inlets i ≡ Some inlet → setup.store ≡ Some s
       → is_listed s state.failed ≡ false → inlet.stored ≡ mark_of state.dests i inlet
@@ -79,7 +92,8 @@ DestRestsAtEnd once core d closed =
 -- The whole.
 
 -- these calls were made in the rounds, and leave this
-pub record RunRests {R : Type 0} (offers : R → ℕ → Record → List Offer → Type 0) (plan : RunPlan) (routers : List R) (reached : Reached) (run : CoreRun) (made : List Exchange) : Type 0 where
+pub record RunRests {R : Type 0} (offers : R → ℕ → Record → List Offer → Type 0) (plan : RunPlan)
+    (routers : List R) (reached : Reached) (run : CoreRun) (made : List Exchange) : Type 0 where
   pub makes : Makes Serves run.begun made run.last
   pub sources :
       (i : ℕ) (inlet : InletPlan) (setup : SourceSetup) (router : R) (opened closed : InletState)

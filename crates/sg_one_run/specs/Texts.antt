@@ -85,11 +85,13 @@ admissions_of i (e ∷ es) = admissions_by i e.act ++ admissions_of i es
 abbrev pub dropped_of : ℕ → List Claim → List Verdict → List Bool
 dropped_of d [] vs = []
 dropped_of d (c ∷ cs) [] = []
-dropped_of d (c ∷ cs) (v ∷ vs) = if c.offer.dest == d then is_dropped v ∷ dropped_of d cs vs else dropped_of d cs vs
+dropped_of d (c ∷ cs) (v ∷ vs) =
+    if c.offer.dest == d then is_dropped v ∷ dropped_of d cs vs else dropped_of d cs vs
 
 -- of those of inlet i
 abbrev pub dropped_by : (i d : ℕ) → Act → List Bool
-dropped_by i d (Admit j records verdicts) = if j == i then dropped_of d (claims_of records) verdicts else []
+dropped_by i d (Admit j records verdicts) =
+    if j == i then dropped_of d (claims_of records) verdicts else []
 dropped_by i d _ = []
 
 abbrev pub dropped_from : (i d : ℕ) → List Event → List Bool
@@ -98,7 +100,9 @@ dropped_from i d (e ∷ es) = dropped_by i d e.act ++ dropped_from i d es
 
 -- d took of inlet i, in order, a prefix of exactly the texts of these records, less those whose verdict dropped them; where none of its
 -- entries is left, it took all of them
-pub record TakesTexts (offers : ℕ → Record → List Offer → Type 0) (frame : ℕ → Content → List ℕ) (i d : ℕ) (done : List Record) (events : List Event) (taken : List (List ℕ)) (left : List DestEntry) : Type 0 where
+pub record TakesTexts (offers : ℕ → Record → List Offer → Type 0) (frame : ℕ → Content → List ℕ)
+    (i d : ℕ) (done : List Record) (events : List Event) (taken : List (List ℕ))
+    (left : List DestEntry) : Type 0 where
   pub texts : List SentText
   pub given : GivesTexts offers frame i d done texts
   pub takes : IsPrefixLess texts taken
@@ -117,7 +121,9 @@ AreFirstRecords done None = Unit {0}
 AreFirstRecords done (Some given) = (later : List Record) × (given ≡ done ++ later)
 
 -- d took of inlet i, in order, a prefix of exactly the texts of the first records that it gave, less those whose verdict dropped them
-pub record TakesFirstTexts (offers : ℕ → Record → List Offer → Type 0) (frame : ℕ → Content → List ℕ) (i d : ℕ) (given : Option (List Record)) (events : List Event) (taken : List (List ℕ)) (left : List DestEntry) : Type 0 where
+pub record TakesFirstTexts (offers : ℕ → Record → List Offer → Type 0)
+    (frame : ℕ → Content → List ℕ) (i d : ℕ) (given : Option (List Record)) (events : List Event)
+    (taken : List (List ℕ)) (left : List DestEntry) : Type 0 where
   pub done : List Record
   pub first : AreFirstRecords done given
   pub takes : TakesTexts offers frame i d done events taken left

@@ -17,7 +17,8 @@ pub record Sending : Type 0 where
   pub well : Bool
 
 -- the first entries were asked for, so many of their frames were taken, and just so many were settled, with the outlet's count behind them
-pub record IsSending (frame : Content → List ℕ) (d : ℕ) (s : Sending) (drain drain' : OutletState) : Type 0 where
+pub record IsSending (frame : Content → List ℕ) (d : ℕ) (s : Sending)
+    (drain drain' : OutletState) : Type 0 where
   pub delivers : DeliversFront d s.taken drain'.count s.well s.made
   pub within : s.taken ≤ length (shown_in s.made)
   pub takes : TakesFrames s.taken (map frame (shown_in s.made)) drain drain'
@@ -35,4 +36,5 @@ calls_in (s ∷ rest) = s.made ++ calls_in rest
 -- two calls, one behind the other: the first entries were shown, from this place on, and so many of them were to be settled
 abbrev pub shown_then_settled : (d most place n count : ℕ) → List Content → Settled → List Exchange
 shown_then_settled d most place n count messages answer =
-    record { call = Front d most; reply = FrontReply (Ok (Entries place messages)) } ∷ record { call = Settle d place n count; reply = SettledReply answer } ∷ []
+    record { call = Front d most; reply = FrontReply (Ok (Entries place messages)) }
+    ∷ record { call = Settle d place n count; reply = SettledReply answer } ∷ []

@@ -7,7 +7,8 @@ use Rattle.sg_options.specs.Numbers.{number_to}
 -- the place of a name among those that are left, which begin at a place
 abbrev pub place_from : ℕ → List (List ℕ) → List ℕ → Option ℕ
 place_from at [] text = None
-place_from at (name ∷ names) text = if bytes_eq name text then Some at else place_from (at + 1) names text
+place_from at (name ∷ names) text =
+    if bytes_eq name text then Some at else place_from (at + 1) names text
 
 abbrev pub either : Option ℕ → Option ℕ → Option ℕ
 either (Some n) other = Some n

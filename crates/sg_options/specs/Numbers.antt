@@ -5,7 +5,8 @@ use Rattle.sg_options.specs.declared.numbers.Range.{Range}
 -- the number behind a digit more, none where the byte is no digit of that base or the number passes the highest one
 abbrev pub number_behind : ℕ → ℕ → ℕ → ℕ → Option ℕ
 number_behind base high n b =
-    if nat_le 48 b && nat_lt b (48 + base) then (if nat_le (n * base + (b - 48)) high then Some (n * base + (b - 48)) else None) else None
+    if nat_le 48 b && nat_lt b (48 + base)
+    then (if nat_le (n * base + (b - 48)) high then Some (n * base + (b - 48)) else None) else None
 
 abbrev pub digits_behind : ℕ → ℕ → Option ℕ → List ℕ → Option ℕ
 digits_behind base high None text = None

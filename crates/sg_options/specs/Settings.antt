@@ -79,7 +79,8 @@ last_value words calls = value_behind (last_option words calls)
 
 abbrev pub has_word : List ℕ → List Spot → Bool
 has_word word [] = false
-has_word word (spot ∷ spots) = if same_keyword spot.token.text word then true else has_word word spots
+has_word word (spot ∷ spots) =
+    if same_keyword spot.token.text word then true else has_word word spots
 
 -- whether this word is among the option's values
 abbrev pub has_flag : List ℕ → Option Call → Bool

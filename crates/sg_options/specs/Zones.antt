@@ -4,7 +4,8 @@ use Rattle.sg_options.specs.Numbers.{number_to}
 
 -- so many minutes east of UTC, behind `+`, or west of it, behind `-`
 abbrev pub offset_of : ℕ → ℕ → Option ℤ
-offset_of sign minutes = if sign == 43 then Some (pos minutes) else (if sign == 45 then Some (neg_ℤ (pos minutes)) else None)
+offset_of sign minutes = if sign == 43 then Some (pos minutes)
+    else (if sign == 45 then Some (neg_ℤ (pos minutes)) else None)
 
 abbrev pub clock_offset : ℕ → Option ℕ → Option ℕ → Option ℤ
 clock_offset sign None minutes = None

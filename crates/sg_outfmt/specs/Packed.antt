@@ -9,7 +9,8 @@ packed path text = length_bytes (length path) ++ (path ++ text)
 
 -- a path and the text behind it; where there is no path, or less than its length says, the whole frame is text
 abbrev pub cut : ℕ → List ℕ → List ℕ → (List ℕ × List ℕ)
-cut n frame behind = if (n == 0) || nat_lt (length behind) n then ([], frame) else (take n behind, drop n behind)
+cut n frame behind = if (n == 0) || nat_lt (length behind) n then ([], frame)
+    else (take n behind, drop n behind)
 
 -- the path of a frame, and its text
 abbrev pub unpacked : List ℕ → (List ℕ × List ℕ)

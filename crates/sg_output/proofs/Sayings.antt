@@ -1,5 +1,5 @@
 -- What was said, and is still to be said.
-use Rattle.std.proofs.Common.{◌≡◌, ◌≤◌, ◌+◌, ◌-◌, ◌^◌, min, ℕ, List, [], ◌++◌, Option, Some, None, refl, sym, ap, ◌∙◌, subst, arith}
+use Rattle.std.proofs.Common.{◌≡◌, ◌≤◌, ◌+◌, ◌-◌, ◌^◌, min, ℕ, List, [], ◌++◌, Option, Some, None, refl, sym, ap, ◌∙◌, subst, arith, Err, IsErrAnd, Ok, Result}
 use Rattle.std.proofs.lemmas.List.{append_assoc, append-nil}
 use Rattle.std.specs.Option.{option_map}
 use Rattle.sg_device.specs.Faults.{Rose}
@@ -53,3 +53,7 @@ some-more a b all text more (s, (e, f)) = (s, (e, sym (append_assoc s text more)
 pub all-said : (a b c : WorldState) (lines text end : List ℕ) → SaidSome a b lines text → SaidText b c (text ++ end) → SaidText a c (lines ++ end)
 all-said a b c lines text end (s, (e, is)) f =
     subst (λ (t : List ℕ). SaidText a c t) (sym (append_assoc s text end) ∙ ap (λ (xs : List ℕ). xs ++ end) is) (says-text a b c s (text ++ end) e f)
+
+pub err-is : {T E : Type 0} → (r : Result T E) (e : E) → IsErrAnd r (λ s. s ≡ e) → r ≡ Err e
+err-is (Ok x) e h = absurd h
+err-is (Err x) e h = ap Err h

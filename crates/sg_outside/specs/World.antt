@@ -84,7 +84,8 @@ abbrev pub KeepsUnread : WorldState → WorldState → Type 0
 KeepsUnread old new = new.unread ≡ old.unread
 
 -- a reading gives the whole file
-abbrev pub ReadsFile : WorldState → WorldState → List ℕ → ℕ → Result (Vec ℕ Global) FileRefusal → Type 0
+abbrev pub ReadsFile : WorldState → WorldState → List ℕ → ℕ → Result (Vec ℕ Global) FileRefusal
+    → Type 0
 ReadsFile old new name limit (Ok bytes) = OnlyReads old new × IsContent old.files name bytes.items
     × (length bytes.items ≤ limit) × KeepsUnread old new
 ReadsFile old new name limit (Err Failed) = OnlyReads old new × Rose old.read_faults new.read_faults
@@ -100,7 +101,8 @@ OnlyBuilds old new = (new ≡ record old { build_faults = new.build_faults })
 
 -- the ledger with one more device opened, or closed
 abbrev pub with_opened : {P S : Type 0} → Ledger P S → P → S → Ledger P S
-with_opened ledger spec state = record ledger { opened = ledger.opened ++ (record { spec = spec; state = state }) ∷ [] }
+with_opened ledger spec state =
+    record ledger { opened = ledger.opened ++ (record { spec = spec; state = state }) ∷ [] }
 
 abbrev pub with_closed : {P S : Type 0} → Ledger P S → S → Ledger P S
 with_closed ledger state = record ledger { closed = ledger.closed ++ state ∷ [] }
@@ -115,7 +117,8 @@ is_record_end limit bytes place =
 -- The place at which a file is read, for the place that was asked for. It is the file's beginning where no record can have
 -- ended there, as when another file stands in its place by now.
 abbrev pub place_in : ℕ → List ℕ → ℕ → ℕ
-place_in limit bytes from = if nat_le from (length bytes) && (nat_lt from (2 ^ 63) && is_record_end limit bytes from) then from else 0
+place_in limit bytes from = if nat_le from (length bytes)
+    && (nat_lt from (2 ^ 63) && is_record_end limit bytes from) then from else 0
 
 -- the place and the bytes left of an inlet over a file, where the machine tells its files
 abbrev pub LeavesFile : Option Files → List ℕ → ℕ → ℕ → InletState → Type 0
@@ -170,8 +173,11 @@ StandsNamed (Some names) spec store None = ⊥
 StandsNamed (Some names) spec store (Some after) = IsStoreNamed names spec store after
 
 abbrev pub StoreOpens : WorldState → WorldState → StoreSpec → DiskState → Type 0
-StoreOpens old new spec store = (new ≡ record old
-    { store_faults = new.store_faults; store_names = new.store_names; stores = with_opened old.stores spec store })
+StoreOpens old new spec store = (new ≡ record old {
+  store_faults = new.store_faults;
+  store_names = new.store_names;
+  stores = with_opened old.stores spec store;
+})
     × (old.store_faults ≤ new.store_faults) × StandsNamed old.store_names spec store new.store_names
 
 abbrev pub StoreRefused : WorldState → WorldState → OpenRefusal → Type 0

@@ -3,8 +3,8 @@ use Rattle.std.proofs.Common.{◌≡◌, ◌⊎◌, inl, inr, ℕ, zero, suc, �
 use Rattle.std.specs.Prelude.{◌==◌}
 use Rattle.sg_lex.specs.declared.token.Token.{Token}
 use Rattle.sg_parse_base.specs.declared.spot.Spot.{Spot}
-use Rattle.sg_parse_base.specs.declared.skip.Bracket.{Bracket}
-use Rattle.sg_parse_base.specs.declared.skip.Bracket.TheVariants.{Opens, Closes, Neither}
+use Rattle.sg_parse_base.specs.declared.skip.BracketEffect.{BracketEffect}
+use Rattle.sg_parse_base.specs.declared.skip.BracketEffect.TheVariants.{Opens, Closes, Neither}
 use Rattle.sg_parse_base.specs.Tokens.{is_symbol}
 use Rattle.sg_parse_base.specs.Input.{sees, symbol}
 use Rattle.sg_parse_base.specs.Skipping.{bracket, open_behind, skipped_behind, skipped_from, skipped}
@@ -13,7 +13,7 @@ use Rattle.sg_parse_base.specs.Laws.{LeavesEnd}
 use Rattle.sg_parse_base.proofs.Steps.{step_ok, ok_is, symbol-takes, takes-symbol, leaves-then, symbol-leaves, symbol-sees}
 
 -- what a bracket that opens or closes is
-abbrev pub IsOfBrackets : Token → Bracket → Type 0
+abbrev pub IsOfBrackets : Token → BracketEffect → Type 0
 IsOfBrackets token (Opens c) = ((is_symbol 40 token ≡ true) × (c ≡ 41)) ⊎ ((is_symbol 123 token ≡ true) × (c ≡ 125))
 IsOfBrackets token (Closes c) = is_symbol c token ≡ true
 IsOfBrackets token Neither = bracket token ≡ Neither
@@ -46,7 +46,7 @@ module _ (turns : ℕ) (later : (c : ℕ) (open_ones : List ℕ) (s r : List Spo
   closed-as [] e = (ok_is tt tt spots r e).1
   closed-as (k ∷ rest) e = later k rest spots r e
 
-  step-sound : (b : Bracket) → IsOfBrackets spot.token b → skipped_behind (open_behind b (c ∷ open_ones)) (λ l. skipped_from turns l spots) (spot ∷ spots) ≡ Ok (tt, r) → Unwinds (c ∷ open_ones) (spot ∷ spots) r
+  step-sound : (b : BracketEffect) → IsOfBrackets spot.token b → skipped_behind (open_behind b (c ∷ open_ones)) (λ l. skipped_from turns l spots) (spot ∷ spots) ≡ Ok (tt, r) → Unwinds (c ∷ open_ones) (spot ∷ spots) r
   step-sound Neither is e =
       let u = later c open_ones spots r e in
       (u.0, u.1, Balanced.plain spot spots u.0 is u.2, u.3, u.4)

@@ -2,7 +2,7 @@
 use Rattle.std.specs.Prelude.{◌≡◌, ◌⊎◌, ℕ, Bool, true, List, [], ◌∷◌}
 use Rattle.sg_lex.specs.declared.token.Token.{Token}
 use Rattle.sg_parse_base.specs.declared.spot.Spot.{Spot}
-use Rattle.sg_parse_base.specs.declared.skip.Bracket.TheVariants.{Neither}
+use Rattle.sg_parse_base.specs.declared.skip.BracketEffect.TheVariants.{Neither}
 use Rattle.sg_parse_base.specs.Tokens.{is_symbol, is_keyword}
 use Rattle.sg_parse_base.specs.Skipping.{bracket}
 

@@ -49,7 +49,8 @@ ReadsTokens outcome (Err stop) new = StopsParsing stop outcome
 -- ---- the steps of rules
 
 infixl 10 ◌>>=◌
-abbrev pub ◌>>=◌ : {A B : Type 0} → ParseOutcome A → (A × List Spot → ParseOutcome B) → ParseOutcome B
+abbrev pub ◌>>=◌ : {A B : Type 0} → ParseOutcome A → (A × List Spot → ParseOutcome B)
+    → ParseOutcome B
 (Ok x) >>= f = f x
 (Err fault) >>= f = Err fault
 
@@ -82,7 +83,8 @@ sees_word word spots = next_is (is_keyword word) spots
 
 -- the symbol of this byte
 unfoldable pub symbol : ℕ → Parser (Unit {0})
-symbol byte spots = if sees byte spots then Ok (tt, behind spots) else Err (fault_at Unexpected spots)
+symbol byte spots = if sees byte spots then Ok (tt, behind spots)
+    else Err (fault_at Unexpected spots)
 
 unfoldable pub word : Parser Spot
 word = expected is_word

@@ -12,7 +12,8 @@ after_commas (spot ∷ spots) = if is_symbol 44 spot.token then after_commas spo
 
 -- what stands between an item and the next one, or the closing parenthesis: commas, but not before the parenthesis
 unfoldable pub gap : Parser (Unit {0})
-gap spots = if sees 44 spots && sees 41 (after_commas spots) then Err (fault_at Unexpected (after_commas spots)) else Ok (tt, after_commas spots)
+gap spots = if sees 44 spots && sees 41 (after_commas spots)
+    then Err (fault_at Unexpected (after_commas spots)) else Ok (tt, after_commas spots)
 
 -- what stands behind an item in braces
 unfoldable pub ending : Parser (Unit {0})

@@ -3,13 +3,13 @@ use Rattle.std.specs.Prelude.{◌≡◌, ℕ, zero, suc, Bool, true, false, ◌=
 use Rattle.sg_lex.specs.declared.token.Token.{Token}
 use Rattle.sg_lex.specs.declared.fault.ConfigKind.TheVariants.{Unexpected}
 use Rattle.sg_parse_base.specs.declared.spot.Spot.{Spot}
-use Rattle.sg_parse_base.specs.declared.skip.Bracket.{Bracket}
-use Rattle.sg_parse_base.specs.declared.skip.Bracket.TheVariants.{Opens, Closes, Neither}
+use Rattle.sg_parse_base.specs.declared.skip.BracketEffect.{BracketEffect}
+use Rattle.sg_parse_base.specs.declared.skip.BracketEffect.TheVariants.{Opens, Closes, Neither}
 use Rattle.sg_parse_base.specs.Tokens.{is_symbol}
 use Rattle.sg_parse_base.specs.Input.{Parser, ParseOutcome, ◌>>=◌, behind, symbol, fault_at}
 
 -- what a token does to the brackets that are open, which are listed by the bytes that close them, the innermost first
-abbrev pub bracket : Token → Bracket
+abbrev pub bracket : Token → BracketEffect
 bracket token =
     if is_symbol 41 token then Closes 41
     else (if is_symbol 125 token then Closes 125
@@ -17,12 +17,12 @@ bracket token =
     else (if is_symbol 123 token then Opens 125
     else Neither)))
 
-abbrev pub next_bracket : List Spot → Bracket
+abbrev pub next_bracket : List Spot → BracketEffect
 next_bracket [] = Neither
 next_bracket (spot ∷ spots) = bracket spot.token
 
 -- the brackets that are open behind a token, and none where it closes another one than the innermost
-abbrev pub open_behind : Bracket → List ℕ → Option (List ℕ)
+abbrev pub open_behind : BracketEffect → List ℕ → Option (List ℕ)
 open_behind (Opens c) open_ones = Some (c ∷ open_ones)
 open_behind (Closes c) [] = None
 open_behind (Closes c) (d ∷ open_ones) = if d == c then Some open_ones else None

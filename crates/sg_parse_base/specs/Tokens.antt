@@ -85,7 +85,8 @@ is_keyword word token = is_word token && same_keyword token.text word
 abbrev pub digits_from : ℕ → List ℕ → Bool
 digits_from n [] = true
 digits_from n (b ∷ text) =
-    if nat_le 48 b && nat_le b 57 then (if nat_lt (n * 10 + (b - 48)) (2 ^ 63) then digits_from (n * 10 + (b - 48)) text else false) else false
+    if nat_le 48 b && nat_le b 57 then (if nat_lt (n * 10 + (b - 48)) (2 ^ 63)
+    then digits_from (n * 10 + (b - 48)) text else false) else false
 
 abbrev pub is_number : List ℕ → Bool
 is_number [] = false
@@ -93,4 +94,5 @@ is_number (b ∷ text) = digits_from 0 (b ∷ text)
 
 abbrev pub is_truth : List ℕ → Bool
 is_truth text =
-    bytes_eq text (codes "yes") || bytes_eq text (codes "on") || bytes_eq text (codes "1") || bytes_eq text (codes "no") || bytes_eq text (codes "off") || bytes_eq text (codes "0")
+    bytes_eq text (codes "yes") || bytes_eq text (codes "on") || bytes_eq text (codes "1")
+    || bytes_eq text (codes "no") || bytes_eq text (codes "off") || bytes_eq text (codes "0")

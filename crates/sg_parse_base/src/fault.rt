@@ -33,7 +33,8 @@ impl From<AllocError> for ParseStop {
 
 /// The fault `Unsupported` at a token that was read.
 pub fn unsupported(spot: &Spot) -> ParseStop
-    ensures { result ≡ ParseStop.Bad (record { kind = Unsupported; at = Some (spot_line spot.now) }) }
+    ensures { result ≡ ParseStop.Bad
+        (record { kind = Unsupported; at = Some (spot_line spot.now) }) }
 {
     ParseStop::Bad(ParseFault {
         kind: ConfigKind::Unsupported,

@@ -12,7 +12,7 @@ use std::alloc::{AllocError, Global};
 
 /// What a token does to the brackets that are open.
 #[derive(Clone, Copy, Drop)]
-pub enum Bracket {
+pub enum BracketEffect {
     /// It opens one, which this byte closes.
     Opens(u8),
     /// It closes the one that this byte closes.
@@ -20,48 +20,49 @@ pub enum Bracket {
     Neither,
 }
 
-fn read_bracket(token: &Token) -> Bracket
+fn read_bracket(token: &Token) -> BracketEffect
     ensures { result ≡ bracket token.now }
 {
     if is_symbol(token, b')') {
-        return Bracket::Closes(b')');
+        return BracketEffect::Closes(b')');
     }
     if is_symbol(token, b'}') {
-        return Bracket::Closes(b'}');
+        return BracketEffect::Closes(b'}');
     }
     if is_symbol(token, b'(') {
-        return Bracket::Opens(b')');
+        return BracketEffect::Opens(b')');
     }
     if is_symbol(token, b'{') {
-        return Bracket::Opens(b'}');
+        return BracketEffect::Opens(b'}');
     }
-    Bracket::Neither
+    BracketEffect::Neither
 }
 
-fn next_bracket(cursor: &Cursor<'_>) -> Bracket
+fn next_bracket(cursor: &Cursor<'_>) -> BracketEffect
     ensures { result ≡ next_bracket cursor.now }
 {
     match cursor.peek() {
         Some(token) => read_bracket(token),
-        None => Bracket::Neither,
+        None => BracketEffect::Neither,
     }
 }
 
 /// Changes the open brackets, the innermost last, by a token, and says whether it may stand there.
-fn pass(open_ones: &mut Items<u8>, bracket: Bracket) -> Result<bool, AllocError>
+fn pass(open_ones: &mut Items<u8>, bracket: BracketEffect) -> Result<bool, AllocError>
     ensures { IfOk result
-        (λ b. AreBracketsBehind (open_behind bracket (reverse open_ones.old)) (reverse open_ones.new) b) }
+        (λ b. AreBracketsBehind (open_behind bracket (reverse open_ones.old))
+        (reverse open_ones.new) b) }
 {
     match bracket {
-        Bracket::Opens(byte) => {
+        BracketEffect::Opens(byte) => {
             open_ones.push(byte)?;
             Ok(true)
         }
-        Bracket::Closes(byte) => match open_ones.pop() {
+        BracketEffect::Closes(byte) => match open_ones.pop() {
             Some(last) => Ok(last == byte),
             None => Ok(false),
         },
-        Bracket::Neither => Ok(true),
+        BracketEffect::Neither => Ok(true),
     }
 }
 

@@ -30,7 +30,7 @@ use Rattle.sg_parse_expr.specs.Classes.{verdict, passes, name_verdict, template_
 use Rattle.sg_parse_expr.specs.Forms.{row_of, filters, filter_options}
 use Rattle.sg_parse_expr.specs.Args as a
 use Rattle.sg_parse_expr.specs.Filters as f
-use Rattle.sg_parse_expr.specs.Grammar.{OneItem, Span, NoArgs, FlatArgs, Called, Option_of, Named, Paired, FilterOption, FilterArgs, FilterCall}
+use Rattle.sg_parse_expr.specs.Grammar.{OneItem, ValueSpan, NoArgs, FlatArgs, Called, Option_of, Named, Paired, FilterOption, FilterArgs, FilterCall}
 
 -- ---- values
 
@@ -125,7 +125,7 @@ takes-dots : (s : List Spot) (spot : Spot) (r : List Spot) → TakesToken is_dot
 unfolding sees_dots
 takes-dots s spot r t = (rw t.0 t.1, rw t.0 refl)
 
-range-sound : (class : Class) (s : List Spot) (y : Arg × List Spot) → a.range class s ≡ Ok y → Span class s y.0 y.1
+range-sound : (class : Class) (s : List Spot) (y : Arg × List Spot) → a.range class s ≡ Ok y → ValueSpan class s y.0 y.1
 unfolding a.range
 range-sound class s y h =
     let x = step_ok (a.value class s) (λ low. cond (sees_dots low.1) (a.value class (behind low.1) >>= λ high. Ok (Range low.0 high.0, high.1)) (Ok (Item low.0, low.1))) y h in
@@ -151,22 +151,22 @@ range-sound class s y h =
           inl ((x.0.0, subst (λ (r : List Spot). TakesToken (passes class) s x.0.0 r) is.1 low, sym is.0), ap sees_dots (sym is.1) ∙ b.0)
     ]
 
-range-again : (class : Class) (s r : List Spot) (x : Arg) → Span class s x r → a.range class s ≡ Ok (x, r)
+range-again : (class : Class) (s r : List Spot) (x : Arg) → ValueSpan class s x r → a.range class s ≡ Ok (x, r)
 unfolding a.range
 range-again class s r x (inl t) = rw (takes-value class s t.0.0 r t.0.1, t.1, t.0.2) refl
 range-again class s r x (inr t) =
     let dots = takes-dots t.m t.dots t.n t.are_dots in
     rw (takes-value class s t.low t.m t.is_low, dots.0, dots.1, takes-value class t.n t.high r t.is_high, t.is) refl
 
-range-front : (class : Class) (s r : List Spot) (x : Arg) → Span class s x r → next_is is_name s ≡ true
+range-front : (class : Class) (s r : List Spot) (x : Arg) → ValueSpan class s x r → next_is is_name s ≡ true
 range-front class s r x (inl t) = value-front class s t.0.0 r t.0.1
 range-front class s r x (inr t) = value-front class s t.low t.m t.is_low
 
-range-leaves : (class : Class) (s r : List Spot) (x : Arg) → Span class s x r → LeavesEnd s r
+range-leaves : (class : Class) (s r : List Spot) (x : Arg) → ValueSpan class s x r → LeavesEnd s r
 range-leaves class s r x (inl t) = takes-leaves (passes class) s t.0.0 r t.0.1
 range-leaves class s r x (inr t) = leaves-then s t.m r (takes-leaves (passes class) s t.low t.m t.is_low) (leaves-then t.m t.n r (takes-leaves is_dots t.m t.dots t.n t.are_dots) (takes-leaves (passes class) t.n t.high r t.is_high))
 
-range-law : (class : Class) → Agrees (a.range class) (Span class)
+range-law : (class : Class) → Agrees (a.range class) (ValueSpan class)
 range-law class = record { sound = range-sound class; again = range-again class; front = range-front class; leaves = range-leaves class }
 
 -- ---- arguments
@@ -188,7 +188,7 @@ unfolding a.flat_args
 flat_args-law flat.Skipped = no_args-law
 flat_args-law (flat.One class) = single-law (a.item class) (OneItem class) (item-law class)
 flat_args-law (flat.Many class) = many-law (a.item class) (OneItem class) (item-law class)
-flat_args-law (flat.Ranges class) = many-law (a.range class) (Span class) (range-law class)
+flat_args-law (flat.Ranges class) = many-law (a.range class) (ValueSpan class) (range-law class)
 
 -- ---- calls
 

@@ -38,7 +38,8 @@ item class spots = do
 unfoldable pub range : Class → Parser Arg
 range class spots = do
   low ← value class spots
-  if sees_dots low.1 then (do high ← value class (behind low.1); Ok (Range low.0 high.0, high.1)) else Ok (Item low.0, low.1)
+  if sees_dots low.1 then (do high ← value class (behind low.1); Ok (Range low.0 high.0, high.1))
+      else Ok (Item low.0, low.1)
 
 -- ---- arguments
 

@@ -22,7 +22,8 @@ is_one_of text (word ∷ words) = if same_keyword text word then true else is_on
 unfoldable pub words_of : WordChoice → List (List ℕ)
 words_of choice.PatternKind = codes "pcre" ∷ codes "string" ∷ codes "glob" ∷ []
 words_of choice.PatternFlag = codes "ignore-case" ∷ codes "prefix" ∷ codes "substring" ∷ []
-words_of choice.SubstFlag = codes "ignore-case" ∷ codes "prefix" ∷ codes "substring" ∷ codes "global" ∷ []
+words_of choice.SubstFlag = codes "ignore-case" ∷ codes "prefix" ∷ codes "substring"
+    ∷ codes "global" ∷ []
 words_of choice.CsvFlag = codes "greedy" ∷ codes "drop-invalid" ∷ []
 words_of choice.SourceFlag =
     codes "no-parse" ∷ codes "syslog-protocol" ∷ codes "empty-lines" ∷ codes "kernel"
@@ -39,14 +40,18 @@ is_same_as text (name ∷ names) = if bytes_eq text name then true else is_same_
 -- the names of facilities in the order of their numbers
 unfoldable pub facilities : List (List ℕ)
 facilities =
-    codes "kern" ∷ codes "user" ∷ codes "mail" ∷ codes "daemon" ∷ codes "auth" ∷ codes "syslog" ∷ codes "lpr" ∷ codes "news"
-    ∷ codes "uucp" ∷ codes "cron" ∷ codes "authpriv" ∷ codes "ftp" ∷ codes "ntp" ∷ codes "security" ∷ codes "console" ∷ codes "solaris-cron"
-    ∷ codes "local0" ∷ codes "local1" ∷ codes "local2" ∷ codes "local3" ∷ codes "local4" ∷ codes "local5" ∷ codes "local6" ∷ codes "local7" ∷ []
+    codes "kern" ∷ codes "user" ∷ codes "mail" ∷ codes "daemon" ∷ codes "auth" ∷ codes "syslog"
+    ∷ codes "lpr" ∷ codes "news"
+    ∷ codes "uucp" ∷ codes "cron" ∷ codes "authpriv" ∷ codes "ftp" ∷ codes "ntp" ∷ codes "security"
+    ∷ codes "console" ∷ codes "solaris-cron"
+    ∷ codes "local0" ∷ codes "local1" ∷ codes "local2" ∷ codes "local3" ∷ codes "local4"
+    ∷ codes "local5" ∷ codes "local6" ∷ codes "local7" ∷ []
 
 -- the names of severities in the order of their numbers, and the older ones of 0, 3 and 4
 unfoldable pub levels : List (List ℕ)
 levels =
-    codes "emerg" ∷ codes "alert" ∷ codes "crit" ∷ codes "err" ∷ codes "warning" ∷ codes "notice" ∷ codes "info" ∷ codes "debug"
+    codes "emerg" ∷ codes "alert" ∷ codes "crit" ∷ codes "err" ∷ codes "warning" ∷ codes "notice"
+    ∷ codes "info" ∷ codes "debug"
     ∷ codes "panic" ∷ codes "error" ∷ codes "warn" ∷ []
 
 abbrev pub are_digits : List ℕ → Bool
@@ -77,7 +82,8 @@ abbrev pub truth_verdict : Token → Option ConfigKind
 truth_verdict token = if is_word token && is_truth token.text then None else no_number token
 
 abbrev pub yes_verdict : Token → Option ConfigKind
-yes_verdict token = if is_word token && is_truth token.text then supported (is_yes token.text) else no_number token
+yes_verdict token = if is_word token && is_truth token.text then supported (is_yes token.text)
+    else no_number token
 
 -- what is wrong with a word or a string
 abbrev pub name_verdict : Class → Token → Option ConfigKind
@@ -98,7 +104,8 @@ named_verdict class token = if is_name token then name_verdict class token else 
 
 -- STR
 abbrev pub text_verdict : Token → Option ConfigKind
-text_verdict token = if is_string token then template_verdict (parts_of token.text) else Some kind.Unexpected
+text_verdict token = if is_string token then template_verdict (parts_of token.text)
+    else Some kind.Unexpected
 
 -- what is wrong with a token in the place of a value, none where it may stand there
 unfoldable pub verdict : Class → Token → Option ConfigKind

@@ -37,7 +37,8 @@ cmp_of spots =
 
 -- operators aren't supported where a word compares
 abbrev pub no_cmp : Parser Cmp
-no_cmp spots = if next_is is_operator spots then Err (fault_at Unsupported spots) else Err (fault_at Unexpected spots)
+no_cmp spots = if next_is is_operator spots then Err (fault_at Unsupported spots)
+    else Err (fault_at Unexpected spots)
 
 abbrev pub cmp_behind : Option Cmp → Parser Cmp
 cmp_behind (Some cmp) spots = Ok (cmp, behind spots)
@@ -55,7 +56,8 @@ compare spots = do
 
 -- a word that stands between terms or before one
 unfoldable pub is_reserved : List Spot → Bool
-is_reserved spots = sees_word (codes "and") spots || sees_word (codes "or") spots || sees_word (codes "not") spots
+is_reserved spots = sees_word (codes "and") spots || sees_word (codes "or") spots
+    || sees_word (codes "not") spots
 
 unfoldable pub filtered : Parser RawExpr
 filtered spots = do

@@ -23,8 +23,10 @@ row_of [] text = None
 row_of (row ∷ rows) text = if same_keyword text row.0 then Some row.1 else row_of rows text
 
 unfoldable pub filter_options : FilterTable → List (List ℕ × Flat)
-filter_options filter_table.Pattern = (codes "type", One (Word PatternKind)) ∷ (codes "flags", Many (Word PatternFlag)) ∷ []
-filter_options filter_table.Match = (codes "type", One (Word PatternKind)) ∷ (codes "flags", Many (Word PatternFlag)) ∷ (codes "value", One Name) ∷ []
+filter_options filter_table.Pattern =
+    (codes "type", One (Word PatternKind)) ∷ (codes "flags", Many (Word PatternFlag)) ∷ []
+filter_options filter_table.Match = (codes "type", One (Word PatternKind))
+    ∷ (codes "flags", Many (Word PatternFlag)) ∷ (codes "value", One Name) ∷ []
 
 unfoldable pub filters : List (List ℕ × FilterForm)
 filters =
@@ -41,14 +43,16 @@ filters =
     ∷ []
 
 unfoldable pub rewrite_options : RewriteTable → List (List ℕ × RewriteOption)
-rewrite_options table.Set = (codes "value", option.Flat (One Name)) ∷ (codes "condition", option.Condition) ∷ []
+rewrite_options table.Set = (codes "value", option.Flat (One Name))
+    ∷ (codes "condition", option.Condition) ∷ []
 rewrite_options table.Subst =
     (codes "value", option.Flat (One Name))
     ∷ (codes "type", option.Flat (One (Word PatternKind)))
     ∷ (codes "flags", option.Flat (Many (Word SubstFlag)))
     ∷ (codes "condition", option.Condition)
     ∷ []
-rewrite_options table.Group = (codes "values", option.Flat (Many Name)) ∷ (codes "condition", option.Condition) ∷ []
+rewrite_options table.Group = (codes "values", option.Flat (Many Name))
+    ∷ (codes "condition", option.Condition) ∷ []
 rewrite_options table.Tag = (codes "condition", option.Condition) ∷ []
 
 unfoldable pub rewrites : List (List ℕ × RewriteForm)

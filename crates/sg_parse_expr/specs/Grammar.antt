@@ -46,8 +46,8 @@ pub record TwoItems (class : Class) (s : List Spot) (arg : Arg) (r : List Spot) 
   pub is : arg ≡ Range low high
 
 -- value [ ".." value ]
-abbrev pub Span : Class → List Spot → Arg → List Spot → Type 0
-Span class s arg r = (OneItem class s arg r × (sees_dots r ≡ false)) ⊎ TwoItems class s arg r
+abbrev pub ValueSpan : Class → List Spot → Arg → List Spot → Type 0
+ValueSpan class s arg r = (OneItem class s arg r × (sees_dots r ≡ false)) ⊎ TwoItems class s arg r
 
 abbrev pub NoArgs : Stands (List Arg)
 NoArgs s args r = Skipped s r × (args ≡ [])
@@ -56,10 +56,11 @@ abbrev pub FlatArgs : Flat → Stands (List Arg)
 FlatArgs flat.Skipped = NoArgs
 FlatArgs (flat.One class) = Single (OneItem class)
 FlatArgs (flat.Many class) = Many (OneItem class)
-FlatArgs (flat.Ranges class) = Many (Span class)
+FlatArgs (flat.Ranges class) = Many (ValueSpan class)
 
 -- WORD ( args ), where the word has a form, which says what the arguments are
-pub record Called {F : Type 0} (form_of : List ℕ → Option F) (Args : F → Stands (List Arg)) (s : List Spot) (call : Call) (r : List Spot) : Type 0 where
+pub record Called {F : Type 0} (form_of : List ℕ → Option F) (Args : F → Stands (List Arg))
+    (s : List Spot) (call : Call) (r : List Spot) : Type 0 where
   pub word : Spot
   pub m : List Spot
   pub form : F
@@ -74,7 +75,8 @@ abbrev pub Option_of : {F : Type 0} → (List ℕ → Option F) → (F → Stand
 Option_of form_of Args s arg r = (call : Call) × Called form_of Args s call r × (arg ≡ Nested call)
 
 -- "(" value { [commas] option } ")"
-pub record Named (class : Class) (Opt : Stands Arg) (s : List Spot) (args : List Arg) (r : List Spot) : Type 0 where
+pub record Named (class : Class) (Opt : Stands Arg) (s : List Spot) (args : List Arg)
+    (r : List Spot) : Type 0 where
   pub inner : List Spot
   pub after : List Spot
   pub first : Spot
@@ -85,7 +87,8 @@ pub record Named (class : Class) (Opt : Stands Arg) (s : List Spot) (args : List
   pub is : args ≡ Item first ∷ options
 
 -- "(" value [commas] value { [commas] option } ")"
-pub record Paired (class next_class : Class) (Opt : Stands Arg) (s : List Spot) (args : List Arg) (r : List Spot) : Type 0 where
+pub record Paired (class next_class : Class) (Opt : Stands Arg) (s : List Spot) (args : List Arg)
+    (r : List Spot) : Type 0 where
   pub inner : List Spot
   pub between : List Spot
   pub next : List Spot
@@ -146,7 +149,8 @@ module _ (Group : Stands RawExpr) where
   -- not = [ "not" ] prim
   pub data Negation : List Spot → RawExpr → List Spot → Type 0 where
     plain : (s r : List Spot) (x : RawExpr) → Primary s x r → Negation s x r
-    negated : (s m r : List Spot) (x y : RawExpr) → Keyword (codes "not") s m → Primary m x r → y ≡ e.Not x → Negation s y r
+    negated : (s m r : List Spot) (x y : RawExpr) → Keyword (codes "not") s m → Primary m x r
+        → y ≡ e.Not x → Negation s y r
 
   -- and = not { "and" not }
   pub record Conjunction (s : List Spot) (x : RawExpr) (r : List Spot) : Type 0 where

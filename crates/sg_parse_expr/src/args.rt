@@ -97,7 +97,8 @@ fn options_behind<R: ItemRule<Item = Arg>>(
     option: &R,
     found: Items<Arg>,
 ) -> Result<Items<Arg>, ParseStop>
-    ensures { ReadsTokens (spec.options_behind (R.parser option.now) found cursor.old) result cursor.new }
+    ensures { ReadsTokens (spec.options_behind (R.parser option.now) found cursor.old) result
+        cursor.new }
 {
     gap(cursor)?;
     items(alloc, cursor, option, found)

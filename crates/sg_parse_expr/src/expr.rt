@@ -165,7 +165,8 @@ fn disjuncts(
     cursor: &mut Cursor<'_>,
     depth: usize,
 ) -> Result<Items<RawExpr>, ParseStop>
-    ensures { ReadsTokens (chain (spec.conjunction (spec.group depth)) (codes "or") cursor.old) result
+    ensures { ReadsTokens (chain (spec.conjunction (spec.group depth)) (codes "or") cursor.old)
+        result
         cursor.new }
 {
     let mut found = Items::new(alloc);

@@ -13,7 +13,8 @@ ghost use Rattle.sg_parse_expr.specs.Ends.{EndsExpression};
 pub fn expressions_are_of_the_grammar()
     ensures read { (depth : ℕ) (s r : List Spot) (x : RawExpr) → expr_at depth s ≡ Ok (x, r)
         → Expression depth s x r }
-    ensures again { (depth : ℕ) (s r : List Spot) (x : RawExpr) → Expression depth s x r → EndsExpression r
+    ensures again { (depth : ℕ) (s r : List Spot) (x : RawExpr) → Expression depth s x r
+        → EndsExpression r
         → expr_at depth s ≡ Ok (x, r) }
 {}
 

@@ -56,12 +56,12 @@ fn read_option(
 }
 
 #[derive(Drop)]
-struct Choices {
+struct RewriteChoices {
     table: RewriteTable,
     depth: usize,
 }
 
-impl ItemRule for Choices {
+impl ItemRule for RewriteChoices {
     type Item = Arg;
 
     ghost parser = { λ rule. spec.rewrite_option rule.depth rule.table };
@@ -81,11 +81,16 @@ fn rewrite_args(
     ensures { ReadsTokens (spec.rewrite_args depth form cursor.old) result cursor.new }
 {
     match form {
-        RewriteForm::Options(table) => many(alloc, cursor, &Choices { table, depth }),
-        RewriteForm::Named(class, table) => named(alloc, cursor, class, &Choices { table, depth }),
+        RewriteForm::Options(table) => many(alloc, cursor, &RewriteChoices { table, depth }),
+        RewriteForm::Named(class, table) => named(
+            alloc,
+            cursor,
+            class,
+            &RewriteChoices { table, depth },
+        ),
         RewriteForm::Pattern(table) => {
             let classes = (Class::Name, Class::Template);
-            paired(alloc, cursor, classes, &Choices { table, depth })
+            paired(alloc, cursor, classes, &RewriteChoices { table, depth })
         }
     }
 }

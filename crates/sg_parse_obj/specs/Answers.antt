@@ -19,20 +19,22 @@ fault_on kind None last = record { kind = kind; file = last.file; line = last.li
 abbrev pub fault_of : ParseFault → Token → ConfigFault
 fault_of fault last = fault_on fault.kind fault.at last
 
-abbrev pub Refuses : List Token → ParseOutcome Object → ParseRefusal → Type 0
-Refuses tokens outcome (Bad fault) = (first : ParseFault) × (last : Token) × (outcome ≡ Err first)
+abbrev pub RefusesObject : List Token → ParseOutcome Object → ParseRefusal → Type 0
+RefusesObject tokens outcome (Bad fault) =
+    (first : ParseFault) × (last : Token) × (outcome ≡ Err first)
     × (slice_get tokens (length tokens - 1) ≡ Some last) × (fault ≡ fault_of first last)
-Refuses tokens outcome NoMemory = Unit {0}
+RefusesObject tokens outcome NoMemory = Unit {0}
 
 -- the statement and the place behind it, or the first fault, unless memory runs out
-abbrev pub Answers : List Token → ParseOutcome Object → Result (Object × ℕ) ParseRefusal → Type 0
-Answers tokens outcome (Ok x) = outcome ≡ Ok (x.0, spots_at tokens x.1)
-Answers tokens outcome (Err refusal) = Refuses tokens outcome refusal
+abbrev pub AnswersObject : List Token → ParseOutcome Object → Result (Object × ℕ) ParseRefusal
+    → Type 0
+AnswersObject tokens outcome (Ok x) = outcome ≡ Ok (x.0, spots_at tokens x.1)
+AnswersObject tokens outcome (Err refusal) = RefusesObject tokens outcome refusal
 
 abbrev pub IsBadSyntax : ParseRefusal → Type 0
 IsBadSyntax (Bad fault) = Unit {0}
 IsBadSyntax NoMemory = ⊥
 
-abbrev pub IsRefused : Result (Object × ℕ) ParseRefusal → Type 0
-IsRefused (Ok x) = ⊥
-IsRefused (Err refusal) = IsBadSyntax refusal
+abbrev pub IsObjectRefused : Result (Object × ℕ) ParseRefusal → Type 0
+IsObjectRefused (Ok x) = ⊥
+IsObjectRefused (Err refusal) = IsBadSyntax refusal

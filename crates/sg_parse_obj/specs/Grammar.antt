@@ -137,18 +137,34 @@ Rewrites depth = Braced (RewriteCall depth)
 
 pub data IsObject (depth : ℕ) : List Spot → Object → List Spot → Type 0 where
   -- "options" "{" { option ";" } "}"
-  options : (s m r : List Spot) (calls : List Call) (x : Object) → Keyword (codes "options") s m → Braced GlobalOption m calls r → x ≡ Options calls → IsObject depth s x r
+  options : (s m r : List Spot) (calls : List Call) (x : Object) → Keyword (codes "options") s m
+      → Braced GlobalOption m calls r → x ≡ Options calls → IsObject depth s x r
   -- "source" NAME "{" { driver ";" } "}"
-  source : (s m n r : List Spot) (name : Spot) (calls : List Call) (x : Object) → Keyword (codes "source") s m → TakesToken is_name m name n → DriverCalls side.Source n calls r → x ≡ Source name calls → IsObject depth s x r
+  source : (s m n r : List Spot) (name : Spot) (calls : List Call) (x : Object)
+      → Keyword (codes "source") s m → TakesToken is_name m name n
+      → DriverCalls side.Source n calls r → x ≡ Source name calls → IsObject depth s x r
   -- "destination" NAME "{" { driver ";" } "}"
-  destination : (s m n r : List Spot) (name : Spot) (calls : List Call) (x : Object) → Keyword (codes "destination") s m → TakesToken is_name m name n → DriverCalls side.Destination n calls r → x ≡ Destination name calls → IsObject depth s x r
+  destination : (s m n r : List Spot) (name : Spot) (calls : List Call) (x : Object)
+      → Keyword (codes "destination") s m → TakesToken is_name m name n
+      → DriverCalls side.Destination n calls r → x ≡ Destination name calls → IsObject depth s x r
   -- "filter" NAME "{" expr [ ";" ] "}"
-  filter : (s m n r : List Spot) (name : Spot) (expr : RawExpr) (x : Object) → Keyword (codes "filter") s m → TakesToken is_name m name n → FilterBody depth n expr r → x ≡ Filter name expr → IsObject depth s x r
+  filter : (s m n r : List Spot) (name : Spot) (expr : RawExpr) (x : Object)
+      → Keyword (codes "filter") s m → TakesToken is_name m name n → FilterBody depth n expr r
+      → x ≡ Filter name expr → IsObject depth s x r
   -- "rewrite" NAME "{" { rewrite ";" } "}"
-  rewrite : (s m n r : List Spot) (name : Spot) (calls : List Call) (x : Object) → Keyword (codes "rewrite") s m → TakesToken is_name m name n → Rewrites depth n calls r → x ≡ Rewrite name calls → IsObject depth s x r
+  rewrite : (s m n r : List Spot) (name : Spot) (calls : List Call) (x : Object)
+      → Keyword (codes "rewrite") s m → TakesToken is_name m name n → Rewrites depth n calls r
+      → x ≡ Rewrite name calls → IsObject depth s x r
   -- "parser" NAME "{" { parser ";" } "}"
-  parser : (s m n r : List Spot) (name : Spot) (calls : List Call) (x : Object) → Keyword (codes "parser") s m → TakesToken is_name m name n → Parsers n calls r → x ≡ Parser name calls → IsObject depth s x r
+  parser : (s m n r : List Spot) (name : Spot) (calls : List Call) (x : Object)
+      → Keyword (codes "parser") s m → TakesToken is_name m name n → Parsers n calls r
+      → x ≡ Parser name calls → IsObject depth s x r
   -- "template" NAME "{" { item ";" } "}"
-  block : (s m n r : List Spot) (name : Spot) (items : List TemplateItem) (x : Object) → Keyword (codes "template") s m → TakesToken is_name m name n → Braced IsTemplateItem n items r → x ≡ Template name (last_text None items) → IsObject depth s x r
+  block : (s m n r : List Spot) (name : Spot) (items : List TemplateItem) (x : Object)
+      → Keyword (codes "template") s m → TakesToken is_name m name n
+      → Braced IsTemplateItem n items r → x ≡ Template name (last_text None items)
+      → IsObject depth s x r
   -- "template" NAME STR
-  text : (s m n r : List Spot) (name text : Spot) (x : Object) → Keyword (codes "template") s m → TakesToken is_name m name n → TakesText n text r → x ≡ Template name (Some text) → IsObject depth s x r
+  text : (s m n r : List Spot) (name text : Spot) (x : Object) → Keyword (codes "template") s m
+      → TakesToken is_name m name n → TakesText n text r → x ≡ Template name (Some text)
+      → IsObject depth s x r

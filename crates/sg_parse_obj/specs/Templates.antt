@@ -23,9 +23,10 @@ escape_item spots = do
   word ← any spots
   opened ← symbol 40 word.1
   x ← value Truth opened.1
-  if is_yes x.0.token.text then Err (record { kind = Unsupported; at = Some (spot_line word.0) }) else (do
-    closed ← symbol 41 x.1
-    Ok (item.Escape, closed.1))
+  if is_yes x.0.token.text then Err (record { kind = Unsupported; at = Some (spot_line word.0) })
+      else (do
+        closed ← symbol 41 x.1
+        Ok (item.Escape, closed.1))
 
 unfoldable pub template_item : Parser TemplateItem
 template_item spots =

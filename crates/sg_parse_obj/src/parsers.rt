@@ -136,11 +136,11 @@ fn read_option(alloc: Global, cursor: &mut Cursor<'_>, table: ParserTable) -> Re
 }
 
 #[derive(Drop)]
-struct Choices {
+struct ParserChoices {
     table: ParserTable,
 }
 
-impl ItemRule for Choices {
+impl ItemRule for ParserChoices {
     type Item = Arg;
 
     ghost parser = { λ rule. spec.option rule.table };
@@ -158,7 +158,7 @@ fn parser_args(
 ) -> Result<Items<Arg>, ParseStop>
     ensures { ReadsTokens (spec.parser_args table cursor.old) result cursor.new }
 {
-    many(alloc, cursor, &Choices { table })
+    many(alloc, cursor, &ParserChoices { table })
 }
 
 #[tactic(auto, unfolding(crate::specs::Parsers::parser_call, sg_parse_expr::specs::Args::called))]

@@ -3,7 +3,7 @@ ghost use Rattle.std.specs.Prelude.{◌≡◌, ◌<◌, ◌^◌, length, slice_g
 ghost use Rattle.sg_parse_base.specs.declared.spot.Spot.{Spot};
 ghost use Rattle.sg_parse_obj.specs.declared.object.Object.{Object as Tree};
 ghost use Rattle.sg_parse_obj.specs.Objects as spec;
-ghost use Rattle.sg_parse_obj.specs.Answers.{Answers, fault_of, IsRefused};
+ghost use Rattle.sg_parse_obj.specs.Answers.{AnswersObject, fault_of, IsObjectRefused};
 ghost use Rattle.sg_parse_obj.specs.Grammar.{IsObject};
 
 use crate::object::Object;
@@ -66,10 +66,10 @@ pub fn statement(
     ensures found { IfOk result (λ x. IsObject spec.depth_limit (spec.spots_at tokens.now at) x.0
         (spec.spots_at tokens.now x.1)) }
     // Where a fault is answered no statement stands there.
-    ensures none { IsRefused result → (tree : Tree) (rest : List Spot)
+    ensures none { IsObjectRefused result → (tree : Tree) (rest : List Spot)
         → IsObject spec.depth_limit (spec.spots_at tokens.now at) tree rest → ⊥ }
     // The statement or the first fault.
-    ensures exact { Answers tokens.now (spec.object_at (spec.spots_at tokens.now at)) result }
+    ensures exact { AnswersObject tokens.now (spec.object_at (spec.spots_at tokens.now at)) result }
 {
     let mut cursor = Cursor::new(tokens, at);
     match object(alloc, &mut cursor, DEPTH_LIMIT) {

@@ -9,16 +9,17 @@ use Rattle.sg_parse_obj.specs.declared.whole.ParseRefusal.TheVariants.{Bad, NoMe
 use Rattle.sg_parse_obj.specs.Objects.{spots_at}
 use Rattle.sg_parse_obj.specs.Answers.{fault_of, IsBadSyntax}
 
-abbrev pub Refuses : List Token → ParseOutcome RawLog → ParseRefusal → Type 0
-Refuses tokens outcome (Bad fault) = (first : ParseFault) × (last : Token) × (outcome ≡ Err first)
+abbrev pub RefusesLog : List Token → ParseOutcome RawLog → ParseRefusal → Type 0
+RefusesLog tokens outcome (Bad fault) =
+    (first : ParseFault) × (last : Token) × (outcome ≡ Err first)
     × (slice_get tokens (length tokens - 1) ≡ Some last) × (fault ≡ fault_of first last)
-Refuses tokens outcome NoMemory = Unit {0}
+RefusesLog tokens outcome NoMemory = Unit {0}
 
 -- the log statement and the place behind it, or the first fault, unless memory runs out
-abbrev pub Answers : List Token → ParseOutcome RawLog → Result (RawLog × ℕ) ParseRefusal → Type 0
-Answers tokens outcome (Ok x) = outcome ≡ Ok (x.0, spots_at tokens x.1)
-Answers tokens outcome (Err refusal) = Refuses tokens outcome refusal
+abbrev pub AnswersLog : List Token → ParseOutcome RawLog → Result (RawLog × ℕ) ParseRefusal → Type 0
+AnswersLog tokens outcome (Ok x) = outcome ≡ Ok (x.0, spots_at tokens x.1)
+AnswersLog tokens outcome (Err refusal) = RefusesLog tokens outcome refusal
 
-abbrev pub IsRefused : Result (RawLog × ℕ) ParseRefusal → Type 0
-IsRefused (Ok x) = ⊥
-IsRefused (Err refusal) = IsBadSyntax refusal
+abbrev pub IsLogRefused : Result (RawLog × ℕ) ParseRefusal → Type 0
+IsLogRefused (Ok x) = ⊥
+IsLogRefused (Err refusal) = IsBadSyntax refusal

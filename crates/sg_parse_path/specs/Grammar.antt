@@ -53,7 +53,8 @@ pub data Refers (depth : ℕ) (kind : ReferenceKind) : List Spot → RawRef → 
       → Refers depth kind s x r
 
 -- a word and a ref
-pub record Referring (depth : ℕ) (kind : ReferenceKind) (s : List Spot) (x : RawElement) (r : List Spot) : Type 0 where
+pub record Referring (depth : ℕ) (kind : ReferenceKind) (s : List Spot) (x : RawElement)
+    (r : List Spot) : Type 0 where
   pub word : Spot
   pub m : List Spot
   pub found : RawRef
@@ -84,7 +85,9 @@ module _ (BracedPath : Stage → Stands RawPath) where
   -- [ "else" "{" { element ";" } "}" ]
   pub data Other : List Spot → Option (List RawElement) → List Spot → Type 0 where
     none : (s : List Spot) → sees_word (codes "else") s ≡ false → Other s None s
-    some : (s m r : List Spot) (path : RawPath) (x : Option (List RawElement)) → Keyword (codes "else") s m → BracedPath stage.Branch m path r → x ≡ Some path.elements → Other s x r
+    some : (s m r : List Spot) (path : RawPath) (x : Option (List RawElement))
+        → Keyword (codes "else") s m → BracedPath stage.Branch m path r → x ≡ Some path.elements
+        → Other s x r
 
 module _ (depth : ℕ) (BracedPath : Stage → Stands RawPath) where
   -- the word, "(" expr ")" and "{" { element ";" } "}"
@@ -105,25 +108,34 @@ module _ (depth : ℕ) (BracedPath : Stage → Stands RawPath) where
   -- { "elif" "(" expr ")" "{" { element ";" } "}" }
   pub data Arms : List Spot → List RawBranch → List Spot → Type 0 where
     done : (s : List Spot) → sees_word (codes "elif") s ≡ false → Arms s [] s
-    more : (s m r : List Spot) (x : RawBranch) (xs : List RawBranch) → Arm (codes "elif") s x m → Arms m xs r → Arms s (x ∷ xs) r
+    more : (s m r : List Spot) (x : RawBranch) (xs : List RawBranch) → Arm (codes "elif") s x m
+        → Arms m xs r → Arms s (x ∷ xs) r
 
   pub data IsPathElement : List Spot → RawElement → List Spot → Type 0 where
     -- "source" ref | "destination" ref | "filter" ref | "rewrite" ref | "parser" ref
     refers : (s r : List Spot) (x : RawElement) (kind : ReferenceKind) → Referring depth kind s x r
         → IsPathElement s x r
     -- "junction" "{" { "channel" "{" path "}" ";" } "}"
-    junction : (s m r : List Spot) (xs : List RawLog) (x : RawElement) → Keyword (codes "junction") s m → Braced (Worded BracedPath (codes "channel")) m xs r → x ≡ Junction xs → IsPathElement s x r
+    junction : (s m r : List Spot) (xs : List RawLog) (x : RawElement)
+        → Keyword (codes "junction") s m → Braced (Worded BracedPath (codes "channel")) m xs r
+        → x ≡ Junction xs → IsPathElement s x r
     -- "if" "(" expr ")" "{" .. "}" { "elif" .. } [ "else" .. ]
-    conditional : (s m n r : List Spot) (first : RawBranch) (more : List RawBranch) (other : Option (List RawElement)) (x : RawElement) → Arm (codes "if") s first m → Arms m more n → Other BracedPath n other r → x ≡ If (first ∷ more) other → IsPathElement s x r
+    conditional : (s m n r : List Spot) (first : RawBranch) (more : List RawBranch)
+        (other : Option (List RawElement)) (x : RawElement) → Arm (codes "if") s first m
+        → Arms m more n → Other BracedPath n other r → x ≡ If (first ∷ more) other
+        → IsPathElement s x r
 
   -- one thing, where it may stand
   pub data IsPathItem (at : Stage) : List Spot → PathItem → List Spot → Type 0 where
     element : (s r : List Spot) (x : RawElement) (y : PathItem) → takes_elements at ≡ true
         → IsPathElement s x r → y ≡ piece.Element x → IsPathItem at s y r
     -- "log" "{" path "}"
-    embedded : (s r : List Spot) (x : RawLog) (y : PathItem) → takes_ends at ≡ true → Worded BracedPath (codes "log") s x r → y ≡ piece.Embedded x → IsPathItem at s y r
+    embedded : (s r : List Spot) (x : RawLog) (y : PathItem) → takes_ends at ≡ true
+        → Worded BracedPath (codes "log") s x r → y ≡ piece.Embedded x → IsPathItem at s y r
     -- "flags" "(" { NAME } ")"
-    flags : (s m r : List Spot) (xs : List Spot) (y : PathItem) → takes_ends at ≡ true → Keyword (codes "flags") s m → Many (TakesToken names_flag) m xs r → y ≡ piece.Flags xs → IsPathItem at s y r
+    flags : (s m r : List Spot) (xs : List Spot) (y : PathItem) → takes_ends at ≡ true
+        → Keyword (codes "flags") s m → Many (TakesToken names_flag) m xs r → y ≡ piece.Flags xs
+        → IsPathItem at s y r
 
   -- path "}", where path = { element ";" } { "log" "{" path "}" ";" } [ "flags" "(" { NAME } ")" ";" ]: what may stand at a place is its stage
   pub data ArePathItems : Stage → List Spot → List PathItem → List Spot → Type 0 where

@@ -25,9 +25,12 @@ empty_path = record { elements = []; embedded = []; flags = [] }
 
 -- a path and one thing more behind it
 abbrev pub with_piece : RawPath → PathItem → RawPath
-with_piece path (piece.Element x) = record { elements = path.elements ++ x ∷ []; embedded = path.embedded; flags = path.flags }
-with_piece path (piece.Embedded x) = record { elements = path.elements; embedded = path.embedded ++ x ∷ []; flags = path.flags }
-with_piece path (piece.Flags xs) = record { elements = path.elements; embedded = path.embedded; flags = xs }
+with_piece path (piece.Element x) =
+    record { elements = path.elements ++ x ∷ []; embedded = path.embedded; flags = path.flags }
+with_piece path (piece.Embedded x) =
+    record { elements = path.elements; embedded = path.embedded ++ x ∷ []; flags = path.flags }
+with_piece path (piece.Flags xs) =
+    record { elements = path.elements; embedded = path.embedded; flags = xs }
 
 -- what may stand behind a thing that may stand there
 abbrev pub stage_behind : Stage → PathItem → Stage

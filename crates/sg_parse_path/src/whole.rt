@@ -5,7 +5,7 @@ ghost use Rattle.sg_parse_obj.specs.Objects.{depth_limit, spots_at};
 ghost use Rattle.sg_parse_obj.specs.Answers.{fault_of};
 ghost use Rattle.sg_parse_path.specs.declared.tree.RawLog.{RawLog as Tree};
 ghost use Rattle.sg_parse_path.specs.Paths.{log_in};
-ghost use Rattle.sg_parse_path.specs.Answers.{Answers, IsRefused};
+ghost use Rattle.sg_parse_path.specs.Answers.{AnswersLog, IsLogRefused};
 ghost use Rattle.sg_parse_path.specs.Grammar.{IsLog};
 
 use crate::path::log;
@@ -58,10 +58,10 @@ pub fn log_statement(
     ensures found { IfOk result
         (λ x. IsLog depth_limit (spots_at tokens.now at) x.0 (spots_at tokens.now x.1)) }
     // Where a fault is answered no log statement stands there.
-    ensures none { IsRefused result → (tree : Tree) (rest : List Spot)
+    ensures none { IsLogRefused result → (tree : Tree) (rest : List Spot)
         → IsLog depth_limit (spots_at tokens.now at) tree rest → ⊥ }
     // The log statement or the first fault.
-    ensures exact { Answers tokens.now (log_in depth_limit (spots_at tokens.now at)) result }
+    ensures exact { AnswersLog tokens.now (log_in depth_limit (spots_at tokens.now at)) result }
 {
     let mut cursor = Cursor::new(tokens, at);
     match log(alloc, &mut cursor, DEPTH_LIMIT) {

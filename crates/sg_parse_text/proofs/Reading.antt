@@ -13,7 +13,7 @@ use Rattle.sg_parse_obj.specs.declared.whole.ParseRefusal.TheVariants.{Bad, NoMe
 use Rattle.sg_parse_obj.specs.Objects.{spots_at}
 use Rattle.sg_parse_text.specs.declared.statement.Statement.{Statement}
 use Rattle.sg_parse_text.specs.Texts.{ends, ended_at, text_from, text_at}
-use Rattle.sg_parse_text.specs.Answers.{IsUnexpected, Refuses, AnswersAll, IsRefused}
+use Rattle.sg_parse_text.specs.Answers.{IsUnexpected, RefusesParse, AnswersAll, IsRefused}
 use Rattle.sg_parse_text.specs.Grammar.{IsConfigText}
 use Rattle.sg_parse_text.proofs.Standing.{at-some, refuses-first, refuses-same}
 use Rattle.sg_parse_text.proofs.TextLaws.{text-sound, text-none}
@@ -71,13 +71,13 @@ read-statement tokens turn at next x found new more e missed read puts so =
     ∙ ap (λ o. o >>= λ y. text_from (length tokens - (turn + 1)) (found ++ y.0 ∷ []) y.1) read
     ∙ ap (λ f. text_from (length tokens - (turn + 1)) f (spots_at tokens next)) (sym puts)
 
-pub read-refused : (tokens : List Token) (turn at : ℕ) (found : List Statement) (refusal : ParseRefusal) → turn < length tokens → ends (spots_at tokens at) ≡ false → sees 59 (spots_at tokens at) ≡ false → Refuses tokens (ended_at (spots_at tokens at)) refusal → WholeText tokens ≡ text_from (length tokens - turn) found (spots_at tokens at) → Refuses tokens (text_at (spots_at tokens 0)) refusal
+pub read-refused : (tokens : List Token) (turn at : ℕ) (found : List Statement) (refusal : ParseRefusal) → turn < length tokens → ends (spots_at tokens at) ≡ false → sees 59 (spots_at tokens at) ≡ false → RefusesParse tokens (ended_at (spots_at tokens at)) refusal → WholeText tokens ≡ text_from (length tokens - turn) found (spots_at tokens at) → RefusesParse tokens (text_at (spots_at tokens 0)) refusal
 read-refused tokens turn at found refusal more e missed refused so =
     refuses-same tokens (text_at (spots_at tokens 0)) (ended_at (spots_at tokens at) >>= λ x. text_from (length tokens - (turn + 1)) (found ++ x.0 ∷ []) x.1) refusal
     (whole-is tokens ∙ step-is tokens turn at found more e missed so)
     (refuses-first tokens (ended_at (spots_at tokens at)) (λ x. text_from (length tokens - (turn + 1)) (found ++ x.0 ∷ []) x.1) refusal refused)
 
-pub read-past : (tokens : List Token) (turn at : ℕ) (found : List Statement) (fault : ConfigFault) → length tokens ≤ turn → ends (spots_at tokens at) ≡ false → IsUnexpected tokens at fault → WholeText tokens ≡ text_from (length tokens - turn) found (spots_at tokens at) → Refuses tokens (text_at (spots_at tokens 0)) (Bad fault)
+pub read-past : (tokens : List Token) (turn at : ℕ) (found : List Statement) (fault : ConfigFault) → length tokens ≤ turn → ends (spots_at tokens at) ≡ false → IsUnexpected tokens at fault → WholeText tokens ≡ text_from (length tokens - turn) found (spots_at tokens at) → RefusesParse tokens (text_at (spots_at tokens 0)) (Bad fault)
 read-past tokens turn at found fault past e u so =
     (fault_at Unexpected (spots_at tokens at), u.0, whole-is tokens ∙ no_more (λ n. text_from n found (spots_at tokens at)) (length tokens) turn past so ∙ from-none found (spots_at tokens at) e, u.1, u.2)
 

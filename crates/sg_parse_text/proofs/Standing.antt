@@ -21,7 +21,7 @@ use Rattle.sg_parse_path.specs.Paths.{log_in}
 use Rattle.sg_parse_path.specs.Answers as path
 use Rattle.sg_parse_text.specs.declared.statement.Statement.TheVariants as statement
 use Rattle.sg_parse_text.specs.Texts.{ends, statement_at}
-use Rattle.sg_parse_text.specs.Answers.{IsUnexpected, Refuses, unexpected_on}
+use Rattle.sg_parse_text.specs.Answers.{IsUnexpected, RefusesParse, unexpected_on}
 
 pub at-some : (tokens : List Token) (at : ℕ) (token : Token) → slice_get tokens at ≡ Some token → spots_at tokens at ≡ (record { token = token; at = at }) ∷ spots_at tokens (at + 1)
 unfolding spots_at
@@ -91,18 +91,18 @@ pub object-refused : (tokens : List Token) (at : ℕ) (fault : ParseFault) → s
 unfolding statement_at
 object-refused tokens at fault word read = rw (word, read) refl
 
-pub refuses-log : (tokens : List Token) (at : ℕ) (refusal : ParseRefusal) → sees_word (codes "log") (spots_at tokens at) ≡ true → path.Refuses tokens (log_in 64 (spots_at tokens at)) refusal → Refuses tokens (statement_at (spots_at tokens at)) refusal
+pub refuses-log : (tokens : List Token) (at : ℕ) (refusal : ParseRefusal) → sees_word (codes "log") (spots_at tokens at) ≡ true → path.RefusesLog tokens (log_in 64 (spots_at tokens at)) refusal → RefusesParse tokens (statement_at (spots_at tokens at)) refusal
 refuses-log tokens at (Bad fault) word h = (h.0, h.1, log-refused tokens at h.0 word h.2, h.3, h.4)
 refuses-log tokens at NoMemory word h = tt
 
-pub refuses-object : (tokens : List Token) (at : ℕ) (refusal : ParseRefusal) → sees_word (codes "log") (spots_at tokens at) ≡ false → obj.Refuses tokens (object_at (spots_at tokens at)) refusal → Refuses tokens (statement_at (spots_at tokens at)) refusal
+pub refuses-object : (tokens : List Token) (at : ℕ) (refusal : ParseRefusal) → sees_word (codes "log") (spots_at tokens at) ≡ false → obj.RefusesObject tokens (object_at (spots_at tokens at)) refusal → RefusesParse tokens (statement_at (spots_at tokens at)) refusal
 refuses-object tokens at (Bad fault) word h = (h.0, h.1, object-refused tokens at h.0 word h.2, h.3, h.4)
 refuses-object tokens at NoMemory word h = tt
 
 -- a refusal of the first of two steps
-pub refuses-first : {A B : Type 0} (tokens : List Token) (outcome : ParseOutcome A) (f : A × List Spot → ParseOutcome B) (refusal : ParseRefusal) → Refuses tokens outcome refusal → Refuses tokens (outcome >>= f) refusal
+pub refuses-first : {A B : Type 0} (tokens : List Token) (outcome : ParseOutcome A) (f : A × List Spot → ParseOutcome B) (refusal : ParseRefusal) → RefusesParse tokens outcome refusal → RefusesParse tokens (outcome >>= f) refusal
 refuses-first tokens outcome f (Bad fault) h = (h.0, h.1, ap (λ o. o >>= f) h.2, h.3, h.4)
 refuses-first tokens outcome f NoMemory h = tt
 
-pub refuses-same : {A : Type 0} (tokens : List Token) (a b : ParseOutcome A) (refusal : ParseRefusal) → a ≡ b → Refuses tokens b refusal → Refuses tokens a refusal
-refuses-same tokens a b refusal same h = subst (λ o. Refuses tokens o refusal) (sym same) h
+pub refuses-same : {A : Type 0} (tokens : List Token) (a b : ParseOutcome A) (refusal : ParseRefusal) → a ≡ b → RefusesParse tokens b refusal → RefusesParse tokens a refusal
+refuses-same tokens a b refusal same h = subst (λ o. RefusesParse tokens o refusal) (sym same) h

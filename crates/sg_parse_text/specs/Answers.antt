@@ -19,27 +19,28 @@ abbrev pub IsUnexpected : List Token → ℕ → ConfigFault → Type 0
 IsUnexpected tokens at fault = (last : Token) × (slice_get tokens (length tokens - 1) ≡ Some last)
     × (fault ≡ fault_of (fault_at Unexpected (spots_at tokens at)) last)
 
-abbrev pub Refuses : {A : Type 0} → List Token → ParseOutcome A → ParseRefusal → Type 0
-Refuses tokens outcome (Bad fault) = (first : ParseFault) × (last : Token) × (outcome ≡ Err first)
+abbrev pub RefusesParse : {A : Type 0} → List Token → ParseOutcome A → ParseRefusal → Type 0
+RefusesParse tokens outcome (Bad fault) =
+    (first : ParseFault) × (last : Token) × (outcome ≡ Err first)
     × (slice_get tokens (length tokens - 1) ≡ Some last) × (fault ≡ fault_of first last)
-Refuses tokens outcome NoMemory = Unit {0}
+RefusesParse tokens outcome NoMemory = Unit {0}
 
 -- what stands at a place, and the place behind it, or the first fault, unless memory runs out
 abbrev pub Answers : {A : Type 0} → List Token → ParseOutcome A → Result (A × ℕ) ParseRefusal
     → Type 0
 Answers tokens outcome (Ok x) = outcome ≡ Ok (x.0, spots_at tokens x.1)
-Answers tokens outcome (Err refusal) = Refuses tokens outcome refusal
+Answers tokens outcome (Err refusal) = RefusesParse tokens outcome refusal
 
 -- the same where the place alone is told
 abbrev pub AnswersPlace : List Token → ParseOutcome (Unit {0}) → Result ℕ ParseRefusal → Type 0
 AnswersPlace tokens outcome (Ok next) = outcome ≡ Ok (tt, spots_at tokens next)
-AnswersPlace tokens outcome (Err refusal) = Refuses tokens outcome refusal
+AnswersPlace tokens outcome (Err refusal) = RefusesParse tokens outcome refusal
 
 -- and where nothing is left
 abbrev pub AnswersAll : List Token → ParseOutcome (List Statement)
     → Result (List Statement) ParseRefusal → Type 0
 AnswersAll tokens outcome (Ok found) = outcome ≡ Ok (found, [])
-AnswersAll tokens outcome (Err refusal) = Refuses tokens outcome refusal
+AnswersAll tokens outcome (Err refusal) = RefusesParse tokens outcome refusal
 
 abbrev pub IsRefused : Result (List Statement) ParseRefusal → Type 0
 IsRefused (Ok found) = ⊥

@@ -11,7 +11,7 @@ use Rattle.sg_parsers.proofs.key.Key.TheSendSync as key
 use Rattle.sg_parsers.specs.contracts.key.Key as Key
 use Rattle.sg_parsers.specs.contracts.csv.Csv as Csv
 use Rattle.sg_parsers.specs.contracts.kv.Kv as Kv
-use Rattle.sg_parsers.specs.contracts.parser.Parser as Parser
+use Rattle.sg_parsers.specs.contracts.parser.MessageParser as Parser
 use Rattle.sg_parsers.specs.contracts.rule.ParserRule as ParserRule
 
 ruleset parts = (heap.crosses, sendable, name.the_send, seq.the_send, key.the_send)

@@ -1,14 +1,10 @@
 -- Values of keys, one byte on.
 use Rattle.std.proofs.Common.{◌≡◌, ℕ, ◌+◌, ◌≤◌, ◌<◌, Bool, true, false, ◌||◌, nat_eq, get_or, append_assoc, append-nil, List, [], ◌∷◌, ◌++◌, length, drop, Some, None, refl, sym, ap, ◌∙◌, arith}
 use Rattle.std.specs.List.{list_any, starts_with}
-use Rattle.std.proofs.lemmas.Bool.{true≢false}
 use Rattle.std.proofs.lemmas.List.{drop_all, drop-drop}
 use Rattle.sg_parsers.specs.Values.{is_blank, plain_len, is_bare, quote_from, unescaped_byte, unescaped_from}
-use Rattle.sg_parsers.proofs.FieldLemmas.{from_here}
-
-or_false : (p q : Bool) → p || q ≡ false → (p ≡ false) × (q ≡ false)
-or_false true q e = absurd (true≢false e)
-or_false false q e = (refl, e)
+use Rattle.sg_msg.proofs.KeptTags.{or_false}
+use Rattle.sg_list.proofs.ListLemmas.{from_here}
 
 pub plain_here : (separator text : List ℕ) (place b : ℕ) → place < length text → get_or text place 0 ≡ b → is_blank b || starts_with nat_eq (drop place text) separator ≡ true → plain_len separator (drop place text) ≡ 0
 plain_here separator text place b h e test =

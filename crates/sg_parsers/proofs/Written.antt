@@ -1,5 +1,5 @@
 -- Texts that are written of values, read again.
-use Rattle.std.proofs.Common.{◌≡◌, ◌≢◌, ℕ, suc, ◌+◌, ◌<◌, ◌≤◌, Bool, true, false, ◌||◌, cond, nat_eq, nat_lt, List, [], ◌∷◌, ◌++◌, length, take, drop, Option, Some, None, refl, sym, ap, ◌∙◌, arith, length-append}
+use Rattle.std.proofs.Common.{◌≡◌, ◌≢◌, ℕ, suc, ◌+◌, ◌<◌, ◌≤◌, Bool, true, false, cond, nat_eq, nat_lt, List, [], ◌∷◌, ◌++◌, length, take, drop, Option, Some, None, refl, sym, ap, ◌∙◌, arith, length-append}
 use Rattle.std.specs.Prelude.{bytes_eq}
 use Rattle.std.specs.List.{list_any}
 use Rattle.std.proofs.lemmas.Bool.{true≢false, eqb-true, lt-ltb, ltb-true}
@@ -7,14 +7,11 @@ use Rattle.sg_msg.specs.Message.{NameValue, Content, value_of, with_pair, with_a
 use Rattle.sg_msg.proofs.ByteOrder.{test-same}
 use Rattle.sg_msg.proofs.ValueLaws.{value-with-other}
 use Rattle.sg_parsers.specs.declared.csv.Csv.{Csv}
-use Rattle.sg_parsers.specs.declared.fields.Within.TheVariants.{Front, Plain, Quoted, Closing}
+use Rattle.sg_parsers.specs.declared.fields.FieldPosition.TheVariants.{Front, Plain, Quoted, Closing}
 use Rattle.sg_parsers.specs.Fields.{is_delimiter, behind, len_from, field_len, value_from, field_value, fields_from, field_count}
 use Rattle.sg_parsers.specs.Csv.{behind_field, column_value, column_pairs, csv_pairs, csv_takes, csv_parsed}
 use Rattle.sg_parsers.specs.Laws.{doubled, row_of, pair_of, beside, IsDelimiter, OthersAreKept, ColumnsAreRead, FieldsAreCounted}
-
-or_false : (p q : Bool) → p || q ≡ false → (p ≡ false) × (q ≡ false)
-or_false true q e = absurd (true≢false e)
-or_false false q e = (refl, e)
+use Rattle.sg_msg.proofs.KeptTags.{or_false}
 
 -- a value in quotes, up to the closing one
 module _ (delimiters : List ℕ) (no_quote : is_delimiter delimiters 34 ≡ false) where

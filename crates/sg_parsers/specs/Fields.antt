@@ -2,8 +2,8 @@
 -- a quote within quotes is doubled: dialect(escape-double-char), quote-pairs('""')).
 use Rattle.std.specs.Prelude.{ℕ, ◌+◌, ◌==◌, Bool, false, not, if◌then◌else◌, List, [], ◌∷◌, ◌++◌}
 use Rattle.std.specs.List.{list_any}
-use Rattle.sg_parsers.specs.declared.fields.Within.{Within}
-use Rattle.sg_parsers.specs.declared.fields.Within.TheVariants.{Front, Plain, Quoted, Closing}
+use Rattle.sg_parsers.specs.declared.fields.FieldPosition.{FieldPosition}
+use Rattle.sg_parsers.specs.declared.fields.FieldPosition.TheVariants.{Front, Plain, Quoted, Closing}
 
 abbrev pub is_delimiter : List ℕ → ℕ → Bool
 is_delimiter delimiters b = list_any (λ delimiter. delimiter == b) delimiters
@@ -12,7 +12,7 @@ abbrev pub is_no_quote : ℕ → Bool
 is_no_quote b = not (b == 34)
 
 -- a delimiter outside of quotes ends a field
-abbrev pub ends : List ℕ → Within → ℕ → Bool
+abbrev pub ends : List ℕ → FieldPosition → ℕ → Bool
 ends delimiters Front b = is_delimiter delimiters b
 ends delimiters Plain b = is_delimiter delimiters b
 ends delimiters Quoted b = false
@@ -20,21 +20,21 @@ ends delimiters Closing b = is_delimiter delimiters b
 
 -- Where the byte behind this one stands. A field that begins with a quote is in quotes up to the next one; two quotes there are
 -- one, and what follows the last one is written as it is.
-abbrev pub behind : Within → ℕ → Within
+abbrev pub behind : FieldPosition → ℕ → FieldPosition
 behind Front b = if b == 34 then Quoted else Plain
 behind Plain b = Plain
 behind Quoted b = if b == 34 then Closing else Quoted
 behind Closing b = if b == 34 then Quoted else Plain
 
 -- what a byte adds to the field's value
-abbrev pub added : Within → ℕ → List ℕ
+abbrev pub added : FieldPosition → ℕ → List ℕ
 added Front b = if b == 34 then [] else b ∷ []
 added Plain b = b ∷ []
 added Quoted b = if b == 34 then [] else b ∷ []
 added Closing b = b ∷ []
 
 -- how many bytes the rest of a field has, up to its delimiter or the end
-abbrev pub len_from : List ℕ → Within → List ℕ → ℕ
+abbrev pub len_from : List ℕ → FieldPosition → List ℕ → ℕ
 len_from delimiters within [] = 0
 len_from delimiters within (b ∷ text) =
     if ends delimiters within b then 0 else 1 + len_from delimiters (behind within b) text
@@ -43,7 +43,7 @@ abbrev pub field_len : List ℕ → List ℕ → ℕ
 field_len delimiters text = len_from delimiters Front text
 
 -- what the rest of a field says
-abbrev pub value_from : Within → List ℕ → List ℕ
+abbrev pub value_from : FieldPosition → List ℕ → List ℕ
 value_from within [] = []
 value_from within (b ∷ text) = added within b ++ value_from (behind within b) text
 
@@ -51,7 +51,7 @@ abbrev pub field_value : List ℕ → List ℕ
 field_value written = value_from Front written
 
 -- how many fields there are from here on: a delimiter stands between two
-abbrev pub fields_from : List ℕ → Within → List ℕ → ℕ
+abbrev pub fields_from : List ℕ → FieldPosition → List ℕ → ℕ
 fields_from delimiters within [] = 1
 fields_from delimiters within (b ∷ text) =
     if ends delimiters within b then 1 + fields_from delimiters Front text

@@ -11,7 +11,7 @@ use std::alloc::Global;
 
 /// Where in a field a byte stands.
 #[derive(Clone, Copy, Drop)]
-pub(crate) enum Within {
+pub(crate) enum FieldPosition {
     /// At its first byte.
     Front,
     /// Outside of quotes.
@@ -29,42 +29,42 @@ fn is_delimiter(delimiters: &[u8], byte: u8) -> bool
 }
 
 // Whether the byte ends the field.
-fn ends(delimiters: &[u8], within: Within, byte: u8) -> bool
+fn ends(delimiters: &[u8], within: FieldPosition, byte: u8) -> bool
     ensures { result ≡ ends delimiters.now within byte }
 {
     match within {
-        Within::Quoted => false,
-        Within::Front => is_delimiter(delimiters, byte),
-        Within::Plain => is_delimiter(delimiters, byte),
-        Within::Closing => is_delimiter(delimiters, byte),
+        FieldPosition::Quoted => false,
+        FieldPosition::Front => is_delimiter(delimiters, byte),
+        FieldPosition::Plain => is_delimiter(delimiters, byte),
+        FieldPosition::Closing => is_delimiter(delimiters, byte),
     }
 }
 
 // Where the byte behind this one stands.
-fn behind(within: Within, byte: u8) -> Within
+fn behind(within: FieldPosition, byte: u8) -> FieldPosition
     ensures { result ≡ behind within byte }
 {
     match within {
-        Within::Front => {
+        FieldPosition::Front => {
             if byte == b'"' {
-                Within::Quoted
+                FieldPosition::Quoted
             } else {
-                Within::Plain
+                FieldPosition::Plain
             }
         }
-        Within::Plain => Within::Plain,
-        Within::Quoted => {
+        FieldPosition::Plain => FieldPosition::Plain,
+        FieldPosition::Quoted => {
             if byte == b'"' {
-                Within::Closing
+                FieldPosition::Closing
             } else {
-                Within::Quoted
+                FieldPosition::Quoted
             }
         }
-        Within::Closing => {
+        FieldPosition::Closing => {
             if byte == b'"' {
-                Within::Quoted
+                FieldPosition::Quoted
             } else {
-                Within::Plain
+                FieldPosition::Plain
             }
         }
     }
@@ -74,7 +74,7 @@ fn field_len(delimiters: &[u8], text: &[u8]) -> usize
     ensures value { result ≡ field_len delimiters.now text.now }
     ensures within { result ≤ length text.now }
 {
-    let mut within = Within::Front;
+    let mut within = FieldPosition::Front;
     for (place, byte) in text.iter().enumerate() {
         let byte = *byte;
         if ends(delimiters, within, byte) {
@@ -90,12 +90,12 @@ pub(crate) fn field_count(delimiters: &[u8], text: &[u8]) -> usize
     ensures { result ≡ field_count delimiters.now text.now }
 {
     let mut count: usize = 1;
-    let mut within = Within::Front;
+    let mut within = FieldPosition::Front;
     for byte in text {
         let byte = *byte;
         if ends(delimiters, within, byte) {
             count += 1;
-            within = Within::Front;
+            within = FieldPosition::Front;
         } else {
             within = behind(within, byte);
         }
@@ -134,27 +134,27 @@ pub(crate) fn split_field(delimiters: &[u8], text: Bytes) -> Result<Split, NoMem
 }
 
 // Adds what a byte adds to the value.
-fn push_byte(value: &mut Vec<u8>, within: Within, byte: u8) -> Result<(), NoMemory>
+fn push_byte(value: &mut Vec<u8>, within: FieldPosition, byte: u8) -> Result<(), NoMemory>
     ensures { OnOk result (value.new.items ≡ value.old.items ++ added within byte) }
 {
     match within {
-        Within::Front => {
+        FieldPosition::Front => {
             if byte != b'"' {
                 value.push(byte)?;
             }
             Ok(())
         }
-        Within::Plain => {
+        FieldPosition::Plain => {
             value.push(byte)?;
             Ok(())
         }
-        Within::Quoted => {
+        FieldPosition::Quoted => {
             if byte != b'"' {
                 value.push(byte)?;
             }
             Ok(())
         }
-        Within::Closing => {
+        FieldPosition::Closing => {
             value.push(byte)?;
             Ok(())
         }
@@ -165,7 +165,7 @@ fn unquoted(alloc: Global, written: &[u8]) -> Result<Vec<u8>, NoMemory>
     ensures { IfOk result (λ value. value.items ≡ field_value written.now) }
 {
     let mut value = Vec::with_capacity(alloc, written.len())?;
-    let mut within = Within::Front;
+    let mut within = FieldPosition::Front;
     for byte in written {
         let byte = *byte;
         push_byte(&mut value, within, byte)?;

@@ -17,5 +17,5 @@ mod values;
 pub use csv::Csv;
 pub use kv::Kv;
 pub use laws::columns_are_read;
-pub use parser::Parser;
+pub use parser::MessageParser;
 pub use rule::ParserRule;

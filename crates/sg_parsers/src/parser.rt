@@ -9,23 +9,23 @@ use sg_msg::Message;
 use std::alloc::Global;
 
 /// A parser as a configuration writes it, without its template.
-pub enum Parser {
+pub enum MessageParser {
     /// `csv-parser()`
     Csv(Csv),
     /// `kv-parser()`
     Kv(Kv),
 }
 
-impl Drop for Parser {
+impl Drop for MessageParser {
     fn drop(self) {
         match self {
-            Parser::Csv(_0) => {}
-            Parser::Kv(_0) => {}
+            MessageParser::Csv(_0) => {}
+            MessageParser::Kv(_0) => {}
         }
     }
 }
 
-impl Parser {
+impl MessageParser {
     /// Sets what the parser reads in the text, and says whether it doesn't refuse it. A text that is
     /// refused changes nothing, and lack of memory neither.
     pub fn apply(
@@ -39,8 +39,8 @@ impl Parser {
         ensures err { OnErr result (message.new ≡ message.old) }
     {
         match self {
-            Parser::Csv(csv) => csv.apply(alloc, text, message),
-            Parser::Kv(kv) => {
+            MessageParser::Csv(csv) => csv.apply(alloc, text, message),
+            MessageParser::Kv(kv) => {
                 kv.apply(alloc, text, message)?;
                 Ok(true)
             }
@@ -48,12 +48,12 @@ impl Parser {
     }
 
     /// An equal one.
-    pub fn share(&self, alloc: Global) -> Result<Parser, NoMemory>
+    pub fn share(&self, alloc: Global) -> Result<MessageParser, NoMemory>
         ensures { IfOk result (λ parser. parser ≡ self.now) }
     {
         match self {
-            Parser::Csv(csv) => Ok(Parser::Csv(csv.share(alloc)?)),
-            Parser::Kv(kv) => Ok(Parser::Kv(kv.copy()?)),
+            MessageParser::Csv(csv) => Ok(MessageParser::Csv(csv.share(alloc)?)),
+            MessageParser::Kv(kv) => Ok(MessageParser::Kv(kv.copy()?)),
         }
     }
 }

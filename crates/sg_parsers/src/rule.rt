@@ -2,7 +2,7 @@
 ghost use Rattle.std.specs.Prelude.{◌≡◌, IfOk, OnOk, OnErr};
 ghost use Rattle.sg_parsers.specs.Parsed.{text_of, rule_takes, rule_parsed};
 
-use crate::Parser;
+use crate::MessageParser;
 use bytes::Bytes;
 use sg_device::NoMemory;
 use sg_msg::Message;
@@ -15,7 +15,7 @@ const TEXT_LIMIT: usize = 1_048_576;
 /// A parser, and the template whose text it reads.
 pub struct ParserRule {
     pub text: Template,
-    pub parser: Parser,
+    pub parser: MessageParser,
 }
 
 impl Drop for ParserRule {

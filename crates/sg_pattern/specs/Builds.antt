@@ -112,7 +112,8 @@ RefusesText old new p (build.TooLarge line) = (line ≡ p.line) × (p.kind ≡ R
 RefusesText old new p build.NoMemory = Unit {0}
 
 -- what making a pattern comes to, by the calls of its builder
-abbrev pub TriesText : {S : Type 0} → BuilderCalls S → S → S → PatternText → Result Unit BuildRefusal
+abbrev pub TriesText : {S : Type 0} → BuilderCalls S → S → S → PatternText
+    → Result Unit BuildRefusal
     → Type 0
 TriesText step old new p (Ok done) = MakesOne step old p new
 TriesText step old new p (Err (build.BadPattern line)) = (line ≡ p.line)

@@ -40,7 +40,8 @@ abbrev pub counted : ℕ → ℕ
 counted limit = 32768 + 14 * limit
 
 -- one more was made, of this text
-pub record HasOneMore (text : List ℕ) (ignore_case : Bool) (old new : List Made) : Type 0 where
+pub record HasOneMorePattern (text : List ℕ) (ignore_case : Bool)
+    (old new : List Made) : Type 0 where
   pub bytes : ℕ
   pub is : new ≡ old ++ record { text = text; ignore_case = ignore_case; bytes = bytes } ∷ []
 

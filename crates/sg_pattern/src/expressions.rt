@@ -2,10 +2,10 @@
 ghost use Rattle.std.specs.Prelude.{◌≡◌, ◌≤◌, ◌+◌, ◌∷◌, ◌++◌, [], is_some, IfOk, IfErr, IfSome, OnOk, OnErr};
 ghost use Rattle.regex.specs.Bytes.{regex_pattern};
 ghost use Rattle.sg_pattern.specs.Builds.{MatchesAs};
-ghost use Rattle.sg_pattern.specs.Kept.{HasOneMore, IsNotMade, bytes_of, made_of, most_bytes};
+ghost use Rattle.sg_pattern.specs.Kept.{HasOneMorePattern, IsNotMade, bytes_of, made_of, most_bytes};
 
 use crate::BuildFault;
-use crate::kept::{Kept, find};
+use crate::kept::{KeptRegex, find};
 use crate::making::make;
 use regex::bytes::Regex;
 use std::alloc::{AllocError, Global};
@@ -16,7 +16,7 @@ const MOST: usize = 268_435_456;
 
 /// The regular expressions that were made, and the bytes that are counted for them.
 pub(crate) struct Expressions {
-    kept: Vec<Kept>,
+    kept: Vec<KeptRegex>,
     bytes: usize,
 }
 
@@ -41,7 +41,7 @@ impl Model for Expressions {
 }
 
 // Adds one.
-fn push(kept: &mut Vec<Kept>, one: Kept) -> Result<(), AllocError>
+fn push(kept: &mut Vec<KeptRegex>, one: KeptRegex) -> Result<(), AllocError>
     ensures ok { OnOk result (kept.new.items ≡ kept.old.items ++ one ∷ []) }
     ensures err { OnErr result (kept.new.items ≡ kept.old.items) }
 {
@@ -79,7 +79,7 @@ impl Expressions {
     }
 
     // Keeps one more.
-    fn keep(&mut self, one: Kept, bytes: usize) -> Result<(), AllocError>
+    fn keep(&mut self, one: KeptRegex, bytes: usize) -> Result<(), AllocError>
         requires bytes { one.bytes ≡ bytes }
         requires room { bytes_of self.old + bytes ≤ most_bytes }
         ensures ok { OnOk result (self.new ≡ self.old ++ one ∷ []) }
@@ -99,7 +99,7 @@ impl Expressions {
     ) -> Result<&'static Regex, BuildFault>
         ensures matches { IfOk result
             (λ regex. MatchesAs ignore_case text.now (regex_pattern regex.now)) }
-        ensures more { OnOk result (HasOneMore text.now ignore_case self.old self.new) }
+        ensures more { OnOk result (HasOneMorePattern text.now ignore_case self.old self.new) }
         ensures same { OnErr result (self.new ≡ self.old) }
         ensures refused { IfErr result (IsNotMade ignore_case text.now) }
     {
@@ -108,7 +108,7 @@ impl Expressions {
             Ok(made) => made,
             Err(fault) => return Err(fault),
         };
-        let one = Kept::new(alloc, text, ignore_case, regex, bytes)?;
+        let one = KeptRegex::new(alloc, text, ignore_case, regex, bytes)?;
         let regex = one.regex();
         self.keep(one, bytes)?;
         Ok(regex)

@@ -11,7 +11,7 @@ use std::marker::Model;
 
 /// A regular expression, which stays for the program's life, and what it was made of.
 #[derive(Drop)]
-pub(crate) struct Kept {
+pub(crate) struct KeptRegex {
     text: Vec<u8>,
     ignore_case: bool,
     // What is counted for it.
@@ -19,7 +19,7 @@ pub(crate) struct Kept {
     regex: &'static Regex,
 }
 
-impl Model for Kept {
+impl Model for KeptRegex {
     ghost use Rattle.std.specs.Prelude.{◌≤◌};
     ghost use Rattle.regex.specs.Bytes.{regex_pattern, regex_size};
     ghost use Rattle.sg_pattern.specs.Builds.{MatchesAs};
@@ -27,7 +27,11 @@ impl Model for Kept {
 
     ghost Value = { Made };
 
-    ghost view = { λ k. record { text = k.text.items; ignore_case = k.ignore_case; bytes = k.bytes } };
+    ghost view = { λ k. record {
+      text = k.text.items;
+      ignore_case = k.ignore_case;
+      bytes = k.bytes;
+    } };
 
     ghost invariant = { λ k. MatchesAs k.ignore_case k.text.items (regex_pattern k.regex.now)
         × (regex_size k.regex.now ≤ k.bytes) };
@@ -46,14 +50,14 @@ fn is_same_case(one: bool, other: bool) -> bool
     if one { other } else { !other }
 }
 
-impl Kept {
+impl KeptRegex {
     pub(crate) fn new(
         alloc: Global,
         text: &str,
         ignore_case: bool,
         regex: Regex,
         bytes: usize,
-    ) -> Result<Kept, AllocError>
+    ) -> Result<KeptRegex, AllocError>
         requires matches { MatchesAs ignore_case text.now (regex_pattern regex) }
         requires small { regex_size regex ≤ bytes }
         ensures { IfOk result (λ kept. kept ≡ record
@@ -61,7 +65,7 @@ impl Kept {
     {
         let text = text.as_bytes().to_vec(alloc)?;
         let regex = for_life(alloc, regex)?;
-        Ok(Kept {
+        Ok(KeptRegex {
             text,
             ignore_case,
             bytes,
@@ -84,7 +88,11 @@ impl Kept {
 
 /// The first that was made of this text. Each is looked at: no more than 3,912 are kept, since 68,608 bytes or more are
 /// counted for each.
-pub(crate) fn find<'k>(kept: &'k [Kept], text: &str, ignore_case: bool) -> Option<&'k Kept>
+pub(crate) fn find<'k>(
+    kept: &'k [KeptRegex],
+    text: &str,
+    ignore_case: bool,
+) -> Option<&'k KeptRegex>
     ensures { option_map (λ one. one.now) result ≡ made_of text.now ignore_case kept.now }
 {
     for one in kept {

@@ -6,17 +6,13 @@ use Rattle.sg_msg.specs.Message.{Content}
 use Rattle.sg_msg.specs.declared.offer.Offer.{Offer}
 use Rattle.sg_pipes.specs.declared.gone.Gone.{Gone}
 use Rattle.sg_tree.specs.Walk.{WalkResult, Siblings, round, branches, each, then_each, both, two_rounds, after_deliveries, up_to_final, stopped}
-use Rattle.sg_tree.proofs.Going.{both-assoc, both-stopped, walked, or-assoc, or-false}
+use Rattle.sg_tree.proofs.Going.{both-assoc, both-stopped, walked, or-assoc, or-false, and-left}
 use Rattle.sg_pipes.specs.Messages.{messages_of}
 use Rattle.sg_pipes.specs.Frames.{with_left, trying}
 
 or-true : (a : Bool) → (a || true) ≡ true
 or-true true = refl
 or-true false = refl
-
-and-left : (a b : Bool) → (a && b) ≡ true → a ≡ true
-and-left true b e = refl
-and-left false b e = e
 
 -- the deliveries so far stand before all
 abbrev pub before : List Offer → WalkResult

@@ -9,4 +9,5 @@ is_for inlet top = top.catchall || list_any (λ source. source == inlet) top.sou
 
 abbrev pub branches_for : ℕ → List Top → List Branch
 branches_for inlet [] = []
-branches_for inlet (top ∷ tops) = if is_for inlet top then top.branch ∷ branches_for inlet tops else branches_for inlet tops
+branches_for inlet (top ∷ tops) =
+    if is_for inlet top then top.branch ∷ branches_for inlet tops else branches_for inlet tops

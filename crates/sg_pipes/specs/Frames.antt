@@ -44,7 +44,11 @@ IsFirstTrial group message flow trial =
 
 -- what was left before, and what is left now; the deliveries so far are those of now
 abbrev pub with_left : Gone → WalkResult → WalkResult
-with_left gone now = record { deliveries = now.deliveries; out = messages_of gone.out ++ now.out; processed = gone.processed || now.processed }
+with_left gone now = record {
+  deliveries = now.deliveries;
+  out = messages_of gone.out ++ now.out;
+  processed = gone.processed || now.processed;
+}
 
 -- the deliveries so far, and nothing else
 abbrev pub only_deliveries : WalkResult → WalkResult
@@ -58,7 +62,8 @@ trying false so_far rest all m f = two_rounds (both so_far (round rest false m f
 
 module _ (pipes : List Pipe) (offered : List Branch) where
   abbrev pub from : SiblingList → ℕ → Siblings
-  from group index = siblings_of (branches_at (steps_at pipes) (drop index (group_of offered pipes group)))
+  from group index = siblings_of
+      (branches_at (steps_at pipes) (drop index (group_of offered pipes group)))
 
   -- no sibling is tried from there on
   abbrev pub IsWalkOver : SiblingList → ℕ → Bool → Type 0
@@ -66,23 +71,31 @@ module _ (pipes : List Pipe) (offered : List Branch) where
       → trying late so_far (from group index) (from group 0) m f ≡ so_far
 
   abbrev pub tries : SiblingTrial → WalkResult → WalkResult
-  tries trial so_far = trying trial.late so_far (from trial.group trial.index) (from trial.group 0) trial.message trial.flow
+  tries trial so_far = trying trial.late so_far (from trial.group trial.index) (from trial.group 0)
+      trial.message trial.flow
 
   abbrev pub tried : SiblingTrial → Bool → WalkResult → WalkResult
   tried trial is_final mine =
-      if mine.processed && is_final then with_left trial.left mine else tries trial (with_left trial.left mine)
+      if mine.processed && is_final then with_left trial.left mine
+      else tries trial (with_left trial.left mine)
 
   abbrev pub waits : WaitingElements → WalkResult → WalkResult
   waits wait now =
-      let later = each (λ n. walk (steps_at pipes wait.next) n wait.flow) (reverse (messages_of wait.waiting)) in
+      let later = each (λ n. walk (steps_at pipes wait.next) n wait.flow)
+      (reverse (messages_of wait.waiting)) in
       let so_far = with_left wait.left now in
-      record { deliveries = now.deliveries ++ later.deliveries; out = so_far.out ++ later.out; processed = wait.counts && (so_far.processed || later.processed) }
+      record {
+        deliveries = now.deliveries ++ later.deliveries;
+        out = so_far.out ++ later.out;
+        processed = wait.counts && (so_far.processed || later.processed);
+      }
 
   -- what a frame makes of what was left last
   abbrev pub does : WalkFrame → WalkResult → WalkResult
   does (frame.Walk at m f) now = after_deliveries now.deliveries (walk (steps_at pipes at) m f)
   does (frame.Try trial) now = tries trial (with_left trial.left (only_deliveries now))
-  does (frame.Tried trial is_final drop_unmatched) now = tried trial is_final (record now { processed = now.processed || drop_unmatched })
+  does (frame.Tried trial is_final drop_unmatched) now =
+      tried trial is_final (record now { processed = now.processed || drop_unmatched })
   does (frame.Last left drop_unmatched) now =
       with_left left (record now { processed = now.processed || drop_unmatched })
   does (frame.Rest next f) now = then_each now (λ n. walk (steps_at pipes next) n f)

@@ -28,7 +28,8 @@ rewritten_at one m = if is_met one m then changed one m else m
 -- where the branch of the first test that holds begins, else the other one
 abbrev pub start_of : List Test → Option ℕ → Content → Option ℕ
 start_of [] other m = other
-start_of (test ∷ tests) other m = if decides test.filter m then Some test.start else start_of tests other m
+start_of (test ∷ tests) other m =
+    if decides test.filter m then Some test.start else start_of tests other m
 
 abbrev pub start_at : Pipe → Option ℕ → Content → Option ℕ
 start_at (pipe.If tests next_other next) other m = start_of tests.items other m

@@ -16,7 +16,11 @@ use Rattle.sg_pipes.specs.Frames.{run, does, group_of}
 
 -- all that was left so far
 abbrev pub now : WalkWork → WalkResult
-now work = record { deliveries = work.offers.items; out = messages_of work.back.out; processed = work.back.processed }
+now work = record {
+  deliveries = work.offers.items;
+  out = messages_of work.back.out;
+  processed = work.back.processed;
+}
 
 -- the work came from what this makes of what was left last to frames that wait
 pub record ComesToFrames (pipes : List Pipe) (made : WalkResult) (old new : WalkWork) : Type 0 where
@@ -26,7 +30,8 @@ pub record ComesToFrames (pipes : List Pipe) (made : WalkResult) (old new : Walk
   pub comes : run pipes old.offered.items (reverse more) (now new) ≡ made
 
 -- the same of the deliveries alone, where no one waits for what comes out
-pub record DeliversOffers (pipes : List Pipe) (made : WalkResult) (old new : WalkWork) : Type 0 where
+pub record DeliversOffers (pipes : List Pipe) (made : WalkResult)
+    (old new : WalkWork) : Type 0 where
   pub offered : new.offered ≡ old.offered
   pub more : List WalkFrame
   pub frames : new.frames.items ≡ old.frames.items ++ more
@@ -37,7 +42,8 @@ WorkComesTo true = DeliversOffers
 WorkComesTo false = ComesToFrames
 
 abbrev pub TurnsWalk : List Pipe → WalkFrame → WalkWork → WalkWork → Type 0
-TurnsWalk pipes frame old new = ComesToFrames pipes (does pipes old.offered.items frame (now old)) old new
+TurnsWalk pipes frame old new =
+    ComesToFrames pipes (does pipes old.offered.items frame (now old)) old new
 
 -- all that waited is done
 pub record WorksWalk (pipes : List Pipe) (old new : WalkWork) : Type 0 where
@@ -45,12 +51,14 @@ pub record WorksWalk (pipes : List Pipe) (old new : WalkWork) : Type 0 where
   pub done : run pipes old.offered.items (reverse old.frames.items) (now old) ≡ now new
 
 -- a message at a pipe went on, was stopped, or is there still
-abbrev pub PassesPipe : List Pipe → ℕ → Content → Content → Bool → WalkWork → WalkWork → Passed → Type 0
+abbrev pub PassesPipe : List Pipe → ℕ → Content → Content → Bool → WalkWork → WalkWork → Passed
+    → Type 0
 PassesPipe pipes at before after flow old new (On next) =
     (does pipes old.offered.items (Walk next after flow) (now new)
     ≡ does pipes old.offered.items (Walk at before flow) (now old))
     × (new.frames ≡ old.frames) × (new.offered ≡ old.offered)
-PassesPipe pipes at before after flow old new Stopped = TurnsWalk pipes (Walk at before flow) old new
+PassesPipe pipes at before after flow old new Stopped =
+    TurnsWalk pipes (Walk at before flow) old new
 PassesPipe pipes at before after flow old new Arrived = (new ≡ old) × (after ≡ before)
 
 -- what a filter does with the message, where one stands there
@@ -75,4 +83,5 @@ Picks pipes offered old new (Some branch) = (new ≡ record old { index = new.in
     ≡ does pipes offered (Try old) before)
 Picks pipes offered old new None = (new ≡ record old { index = new.index })
     × (slice_get (group_of offered pipes old.group) new.index ≡ None)
-    × ((before : WalkResult) → does pipes offered (Try new) before ≡ does pipes offered (Try old) before)
+    × ((before : WalkResult) → does pipes offered (Try new) before
+    ≡ does pipes offered (Try old) before)

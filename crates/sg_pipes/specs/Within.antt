@@ -21,18 +21,23 @@ mutual
   StaysWithin-prop dests (filter decision rest) = StaysWithin-prop dests rest
   StaysWithin-prop dests (rewrite rule rest) = StaysWithin-prop dests rest
   StaysWithin-prop dests (parse rule rest) = StaysWithin-prop dests rest
-  StaysWithin-prop dests (deliver drivers rest) = ×_prop (AreDests-prop dests drivers) (StaysWithin-prop dests rest)
-  StaysWithin-prop dests (junction channels rest) = ×_prop (AllStayWithin-prop dests channels) (StaysWithin-prop dests rest)
-  StaysWithin-prop dests (choose choice rest) = ×_prop (EachStaysWithin-prop dests choice) (StaysWithin-prop dests rest)
+  StaysWithin-prop dests (deliver drivers rest) =
+      ×_prop (AreDests-prop dests drivers) (StaysWithin-prop dests rest)
+  StaysWithin-prop dests (junction channels rest) =
+      ×_prop (AllStayWithin-prop dests channels) (StaysWithin-prop dests rest)
+  StaysWithin-prop dests (choose choice rest) =
+      ×_prop (EachStaysWithin-prop dests choice) (StaysWithin-prop dests rest)
   StaysWithin-prop dests (embedded logs) = AllStayWithin-prop dests logs
 
   AllStayWithin-prop : (dests : ℕ) (siblings : Siblings) → IsProp (AllStayWithin dests siblings)
   AllStayWithin-prop dests no_siblings = Unit-prop
-  AllStayWithin-prop dests (sibling marks steps more) = ×_prop (StaysWithin-prop dests steps) (AllStayWithin-prop dests more)
+  AllStayWithin-prop dests (sibling marks steps more) =
+      ×_prop (StaysWithin-prop dests steps) (AllStayWithin-prop dests more)
 
   EachStaysWithin-prop : (dests : ℕ) (choice : Choice) → IsProp (EachStaysWithin dests choice)
   EachStaysWithin-prop dests (otherwise steps) = StaysWithin-prop dests steps
-  EachStaysWithin-prop dests (test decision steps more) = ×_prop (StaysWithin-prop dests steps) (EachStaysWithin-prop dests more)
+  EachStaysWithin-prop dests (test decision steps more) =
+      ×_prop (StaysWithin-prop dests steps) (EachStaysWithin-prop dests more)
 
 TopsStayWithin-prop : (dests : ℕ) (tops : List TopStatement) → IsProp (TopsStayWithin dests tops)
 TopsStayWithin-prop dests [] = Unit-prop

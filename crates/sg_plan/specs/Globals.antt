@@ -23,4 +23,7 @@ unfoldable pub defaults_of : List Statement → Defaults
 defaults_of statements = fold with_statement no_options statements
 
 abbrev pub globals_of : List Statement → Globals
-globals_of statements = record { defaults = defaults_of statements; texts = templates_of statements }
+globals_of statements = record {
+  defaults = defaults_of statements;
+  texts = templates_of statements;
+}

@@ -19,12 +19,13 @@ outlet_store setups d = option_and_then
     (slice_get setups d)
 
 -- an inlet or a destination has the store of this number
-abbrev pub IsUsed : List SourceSetup → List DestSetup → ℕ → Type 0
-IsUsed inlets outlets s = ((i : ℕ) × (inlet_store inlets i ≡ Some s))
+abbrev pub IsStoreUsed : List SourceSetup → List DestSetup → ℕ → Type 0
+IsStoreUsed inlets outlets s = ((i : ℕ) × (inlet_store inlets i ≡ Some s))
     ⊎ ((d : ℕ) × (outlet_store outlets d ≡ Some s))
 
 -- the stores are so many, each is used, and none is that of two inlets, of two destinations, or of one of each
-pub record NumbersStores (inlets : List SourceSetup) (outlets : List DestSetup) (count : ℕ) : Type 0 where
+pub record NumbersStores (inlets : List SourceSetup) (outlets : List DestSetup)
+    (count : ℕ) : Type 0 where
   pub positions : (i s : ℕ) → inlet_store inlets i ≡ Some s → s < count
   pub buffers : (d s : ℕ) → outlet_store outlets d ≡ Some s → s < count
   pub inlets_apart : (i j s : ℕ) → inlet_store inlets i ≡ Some s → inlet_store inlets j ≡ Some s
@@ -32,7 +33,7 @@ pub record NumbersStores (inlets : List SourceSetup) (outlets : List DestSetup) 
   pub dests_apart : (d e s : ℕ) → outlet_store outlets d ≡ Some s → outlet_store outlets e ≡ Some s
       → d ≡ e
   pub apart : (i d s : ℕ) → inlet_store inlets i ≡ Some s → outlet_store outlets d ≡ Some s → ⊥
-  pub used : (s : ℕ) → s < count → IsUsed inlets outlets s
+  pub used : (s : ℕ) → s < count → IsStoreUsed inlets outlets s
 
 -- 100 to 100,000 records
 abbrev pub HasWindow : SourceSetup → Type 0

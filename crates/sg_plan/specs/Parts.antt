@@ -69,7 +69,11 @@ size_by false capacity = 128
 
 abbrev pub buffer_stores : Option DiskBuffer → List StoreSpec
 buffer_stores None = []
-buffer_stores (Some buffer) = record { name = buffer.store; create = true; size = size_by buffer.whole buffer.capacity } ∷ []
+buffer_stores (Some buffer) = record {
+  name = buffer.store;
+  create = true;
+  size = size_by buffer.whole buffer.capacity;
+} ∷ []
 
 -- behind so many stores a further one has that number
 abbrev pub number_by : ℕ → Option (List ℕ) → Option ℕ
@@ -82,7 +86,10 @@ buffer_by count (Some buffer) = Some (record { store = count; capacity = buffer.
 
 -- each inlet of a driver has its window
 abbrev pub setup_of : ℕ → SourceDriver → SourceSetup
-setup_of count source = record { window = source.window; store = number_by count (store_at source.place) }
+setup_of count source = record {
+  window = source.window;
+  store = number_by count (store_at source.place);
+}
 
 -- the inlets of the driver of this number, one for each slot
 abbrev pub inlets_of : ℕ → Owner → SourceDriver → List InletPlan
@@ -94,7 +101,8 @@ with_source parts owner source = record {
   inlet_owners = parts.inlet_owners ++ replicate (slots_at source.place) owner;
   outlet_owners = parts.outlet_owners;
   sources = parts.sources ++ source ∷ [];
-  inlet_setups = parts.inlet_setups ++ replicate (slots_at source.place) (setup_of (length parts.stores) source);
+  inlet_setups = parts.inlet_setups
+      ++ replicate (slots_at source.place) (setup_of (length parts.stores) source);
   outlet_setups = parts.outlet_setups;
   inlets = parts.inlets ++ inlets_of (length parts.sources) owner source;
   outlets = parts.outlets;

@@ -13,8 +13,10 @@ use Rattle.sg_plan.specs.declared.driver.OwnedDriver.{OwnedDriver}
 use Rattle.sg_plan.specs.Owned.{Owned}
 
 abbrev pub IsDriverRead : Globals → Side → Call → Driver → Type 0
-IsDriverRead globals side.Source call (driver.Source source) = IsSourceDriver globals.defaults call source
-IsDriverRead globals side.Destination call (driver.Destination dest) = IsDestination globals.defaults
+IsDriverRead globals side.Source call (driver.Source source) =
+    IsSourceDriver globals.defaults call source
+IsDriverRead globals side.Destination call (driver.Destination dest) =
+    IsDestination globals.defaults
     (text_in globals.texts) call dest
 IsDriverRead globals side.Source call (driver.Destination dest) = ⊥
 IsDriverRead globals side.Destination call (driver.Source source) = ⊥
@@ -29,7 +31,8 @@ AreDriversRead globals (written ∷ others) (driver ∷ drivers) =
     × AreDriversRead globals others drivers
 
 -- these drivers come behind those that were read before
-pub record ReadsDrivers (globals : Globals) (written : Owned) (old new : List OwnedDriver) : Type 0 where
+pub record ReadsDrivers (globals : Globals) (written : Owned)
+    (old new : List OwnedDriver) : Type 0 where
   pub more : List OwnedDriver
   pub added : new ≡ old ++ more
   pub read : AreDriversRead globals written more

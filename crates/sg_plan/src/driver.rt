@@ -63,7 +63,8 @@ pub fn read_driver(
     call: &Call,
 ) -> Result<(), NoMemory>
     requires { AreDefaults globals.now.defaults }
-    ensures { OnOk result (ReadsDrivers globals.now ((owner_at inline name.now, (side, call.now)) ∷ [])
+    ensures { OnOk result (ReadsDrivers globals.now ((owner_at inline name.now, (side, call.now))
+        ∷ [])
         found.old.items found.new.items) }
 {
     let driver = read_one(alloc, globals, side, call)?;

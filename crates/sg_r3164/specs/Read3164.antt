@@ -55,11 +55,13 @@ behind_host (Some len) text = drop 1 (drop len text)
 -- the pairs that a reading gives
 abbrev pub parts : List ℕ → Option (List ℕ) → Option (List ℕ) → List ℕ → List NameValue
 parts host program pid text =
-    (record { name = codes "HOST"; value = host }) ∷ [] ++ some_pair (codes "PROGRAM") program ++ some_pair (codes "PID") pid
+    (record { name = codes "HOST"; value = host }) ∷ [] ++ some_pair (codes "PROGRAM") program
+    ++ some_pair (codes "PID") pid
     ++ (record { name = codes "MESSAGE"; value = text }) ∷ []
 
 -- the same, set on others
-abbrev pub with_parts : List ℕ → Option (List ℕ) → Option (List ℕ) → List ℕ → List NameValue → List NameValue
+abbrev pub with_parts : List ℕ → Option (List ℕ) → Option (List ℕ) → List ℕ → List NameValue
+    → List NameValue
 with_parts host program pid text pairs = with_all (parts host program pid text) pairs
 
 -- the message of an item that isn't parsed
@@ -88,7 +90,8 @@ parsed opts received peer item found = record {
   pri = pri_of (priority item) opts.pri;
   sent = sent_of opts (option_map (λ stamp. stamp.0) found) received;
   received = received;
-  pairs = with_all (pairs_behind_stamp opts peer (is_some found) (behind_stamp found (behind_pri (priority item) item))) [];
+  pairs = with_all (pairs_behind_stamp opts peer (is_some found)
+      (behind_stamp found (behind_pri (priority item) item))) [];
   tags = [];
 }
 

@@ -1,17 +1,15 @@
 -- Values of parameters at the front of a text.
-use Rattle.std.proofs.Common.{◌≡◌, ℕ, ◌+◌, ◌≤◌, ◌<◌, Bool, true, false, ◌||◌, nat_eq, cond, get_or, add-one, drop-cons, append_assoc, append-nil, subst, List, [], ◌∷◌, ◌++◌, length, take, drop, Some, None, is_some, refl, sym, ap, ◌∙◌, arith}
+use Rattle.std.proofs.Common.{◌≡◌, ℕ, ◌+◌, ◌≤◌, ◌<◌, Bool, true, false, ◌||◌, nat_eq, cond, get_or, append_assoc, append-nil, subst, List, [], ◌∷◌, ◌++◌, length, take, drop, Some, None, is_some, refl, sym, ap, ◌∙◌, arith}
 use Rattle.std.specs.List.{list_any}
-use Rattle.std.proofs.lemmas.Bool.{true≢false, false≢true, eqb-true}
+use Rattle.std.proofs.lemmas.Bool.{false≢true, eqb-true}
 use Rattle.std.proofs.lemmas.List.{drop_all}
 use Rattle.std.proofs.Math.Seq.{take-append_seam, drop-append_seam}
 use Rattle.sg_msg.specs.Sets.{is_escaped}
 use Rattle.sg_r5424.specs.Values.{is_bare, SpellsValue, IsValue, quote_from, unescaped_byte, unescaped_from}
 use Rattle.sg_r5424.specs.Values.SpellsValue.{none, escaped, backslash, plain}
 use Rattle.sg_r5424.proofs.RunLemmas.{cut_same}
-
-or_false : (p q : Bool) → p || q ≡ false → (p ≡ false) × (q ≡ false)
-or_false true q e = absurd (true≢false e)
-or_false false q e = (refl, e)
+use Rattle.sg_msg.proofs.KeptTags.{or_false}
+use Rattle.sg_list.proofs.ListLemmas.{from_here}
 
 -- a byte that needs no backslash is none of three
 record IsPlain (b : ℕ) : Type 0 where
@@ -160,10 +158,6 @@ pub value_none : (text value rest : List ℕ) → quote_from false 0 text ≡ No
 value_none text value rest e = λ h.
     let other = ap (quote_from false 0) h.is_text ∙ quote_is 0 h.spelled value rest h.spells in
     false≢true (ap is_some (sym e ∙ other))
-
--- a text from one byte on
-from_here : (text : List ℕ) (place b : ℕ) → place < length text → get_or text place 0 ≡ b → drop place text ≡ b ∷ drop (place + 1) text
-from_here text place b h e = rw (add-one, ← e) (drop-cons text place 0 h)
 
 -- the closing quote, where this byte is it, where it can't stand, and where it is another
 pub quote_here : (behind : Bool) (text : List ℕ) (place b : ℕ) → place < length text → get_or text place 0 ≡ b → is_bare behind b 34 ≡ true → quote_from behind place (drop place text) ≡ Some place

@@ -49,7 +49,8 @@ begin_with id [] = false
 begin_with id (item ∷ items) = bytes_eq id item.id
 
 -- a pair that is an element alone has no value, and stands between those of other elements
-pub record IsAlone (before : Option (List ℕ)) (id value : List ℕ) (behind : List SdItem) : Type 0 where
+pub record IsAlone (before : Option (List ℕ)) (id value : List ℕ)
+    (behind : List SdItem) : Type 0 where
   pub empty : value ≡ []
   pub begins : is_open before id ≡ false
   pub ends : begin_with id behind ≡ false
@@ -71,9 +72,15 @@ pub record KeepsData (pairs : List NameValue) : Type 0 where
 -- what is said again
 pub record SaysAgain (opts : ReadOpts) (message said : Content) : Type 0 where
   pub pri : said.pri ≡ message.pri
-  pub host : opts.keep_hostname ≡ true → (value : List ℕ) → value_of (codes "HOST") message.pairs ≡ Some value → IsFieldText 255 value → value_of (codes "HOST") said.pairs ≡ Some value
-  pub program : HasFieldForm 48 (value_of (codes "PROGRAM") message.pairs) → value_of (codes "PROGRAM") said.pairs ≡ value_of (codes "PROGRAM") message.pairs
-  pub pid : HasFieldForm 128 (value_of (codes "PID") message.pairs) → value_of (codes "PID") said.pairs ≡ value_of (codes "PID") message.pairs
-  pub msgid : HasFieldForm 32 (value_of (codes "MSGID") message.pairs) → value_of (codes "MSGID") said.pairs ≡ value_of (codes "MSGID") message.pairs
-  pub text : IsWholeText (text_of (codes "MESSAGE") message.pairs) → value_of (codes "MESSAGE") said.pairs ≡ Some (text_of (codes "MESSAGE") message.pairs)
+  pub host : opts.keep_hostname ≡ true → (value : List ℕ)
+      → value_of (codes "HOST") message.pairs ≡ Some value → IsFieldText 255 value
+      → value_of (codes "HOST") said.pairs ≡ Some value
+  pub program : HasFieldForm 48 (value_of (codes "PROGRAM") message.pairs)
+      → value_of (codes "PROGRAM") said.pairs ≡ value_of (codes "PROGRAM") message.pairs
+  pub pid : HasFieldForm 128 (value_of (codes "PID") message.pairs)
+      → value_of (codes "PID") said.pairs ≡ value_of (codes "PID") message.pairs
+  pub msgid : HasFieldForm 32 (value_of (codes "MSGID") message.pairs)
+      → value_of (codes "MSGID") said.pairs ≡ value_of (codes "MSGID") message.pairs
+  pub text : IsWholeText (text_of (codes "MESSAGE") message.pairs)
+      → value_of (codes "MESSAGE") said.pairs ≡ Some (text_of (codes "MESSAGE") message.pairs)
   pub structured : KeepsData message.pairs → data_pairs said.pairs ≡ data_pairs message.pairs

@@ -38,7 +38,8 @@ message_pair message = record { name = codes "MESSAGE"; value = message }
 
 -- the same with pairs of structured data put, in their order, and with MESSAGE
 abbrev pub whole_build : Build → List NameValue → List ℕ → Build
-whole_build build pairs message = record build { put = build.put ++ pairs ++ message_pair message ∷ [] }
+whole_build build pairs message =
+    record build { put = build.put ++ pairs ++ message_pair message ∷ [] }
 
 abbrev pub whole_content : Build → List NameValue → List ℕ → Content
 whole_content build pairs message = built (whole_build build pairs message)
@@ -53,7 +54,8 @@ pub record Behind (build : Build) (text : List ℕ) (whole : Content) : Type 0 w
   pub is_content : whole ≡ whole_content build pairs message
 
 -- SYSLOG-MSG (RFC 5424, section 6): the item is related to a message, its received stamp being this one
-pub record ReadsSyslogMsg (received : Stamp) (peer : List ℕ) (opts : ReadOpts) (item : List ℕ) (content : Content) : Type 0 where
+pub record ReadsSyslogMsg (received : Stamp) (peer : List ℕ) (opts : ReadOpts) (item : List ℕ)
+    (content : Content) : Type 0 where
   pub front : HeaderFront
   pub names : HeaderNames
   pub behind_front : List ℕ
@@ -71,7 +73,8 @@ without_end text = take (length text - suffix_len is_end_byte text) text
 
 -- the item, its moment, its peer and the source's options are related to this message
 abbrev pub Is5424 : List ℕ → ℤ → List ℕ → ReadOpts → Content → Type 0
-Is5424 item at peer opts content = ReadsSyslogMsg (received_at at opts) peer opts (without_end item) content
+Is5424 item at peer opts content =
+    ReadsSyslogMsg (received_at at opts) peer opts (without_end item) content
 
 -- why an item has no message: nothing is related to it, and the place is at most its length; or memory lacks
 abbrev pub Is5424Refusal : List ℕ → ℤ → List ℕ → ReadOpts → R5424Refusal → Type 0
@@ -81,7 +84,8 @@ Is5424Refusal item at peer opts NoMemory = Unit {0}
 
 abbrev pub Answers5424 : List ℕ → ℤ → List ℕ → ReadOpts → Result Content R5424Refusal → Type 0
 Answers5424 item at peer opts result = MatchResult result
-    (λ content. Is5424 item at peer opts content) (λ refusal. Is5424Refusal item at peer opts refusal)
+    (λ content. Is5424 item at peer opts content)
+    (λ refusal. Is5424Refusal item at peer opts refusal)
 
 -- a text is related to the message found, or to none, and what is left of it is no longer
 abbrev pub TryReads : (Content → Type 0) → List ℕ → List ℕ → Result (Option Content) AllocError
@@ -93,7 +97,8 @@ TryReads Is old new result =
 -- what a record that isn't so becomes
 abbrev pub refusal_pairs : List ℕ → List ℕ → List NameValue
 refusal_pairs item peer =
-    (record { name = codes "HOST"; value = peer }) ∷ (record { name = codes "PROGRAM"; value = codes "syslog-ng" })
+    (record { name = codes "HOST"; value = peer })
+    ∷ (record { name = codes "PROGRAM"; value = codes "syslog-ng" })
     ∷ message_pair (codes "Error processing log message: " ++ item) ∷ []
 
 abbrev pub refusal : List ℕ → ℤ → List ℕ → ReadOpts → Content

@@ -25,4 +25,5 @@ PutsPairs Says old new before after result =
     IfOk result (λ taken. MatchBool taken
     ((pairs : List NameValue) × (Says old pairs new
     × (after ≡ record before { put = before.put ++ pairs }) × (length new ≤ length old)))
-    (((pairs : List NameValue) (rest : List ℕ) → ¬ Says old pairs rest) × (length new ≤ length old)))
+    (((pairs : List NameValue) (rest : List ℕ) → ¬ Says old pairs rest)
+    × (length new ≤ length old)))

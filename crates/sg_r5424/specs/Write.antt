@@ -41,4 +41,6 @@ line_text content env =
 
 -- the year of the line's stamp is 0001 to 9998, as a reader has it
 abbrev pub HasYear : Content → Env → Type 0
-HasYear content env = let local = local_time (shown_stamp env.zone content.sent) in (1 ≤ local.year) × (local.year ≤ 9998)
+HasYear content env =
+    let local = local_time (shown_stamp env.zone content.sent) in
+    (1 ≤ local.year) × (local.year ≤ 9998)

@@ -95,7 +95,8 @@ fn read_record(
     opts: &ReadOpts,
 ) -> Result<Option<Message>, AllocError>
     requires { IsValidStamp received }
-    ensures { TryReads (ReadsSyslogMsg received peer.now opts.now text.old) text.old text.new result }
+    ensures { TryReads (ReadsSyslogMsg received peer.now opts.now text.old) text.old text.new
+        result }
 {
     let Some(front) = take_front(text) else {
         return Ok(None);

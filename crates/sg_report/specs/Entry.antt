@@ -9,7 +9,11 @@ flow_text false = codes "no"
 -- an entry: its number, its source, the place behind its record there, its flow, and the length of its payload
 abbrev pub entry_line : (number source end : ℕ) → Bool → ℕ → List ℕ
 entry_line number source end flow length =
-    codes "entry " ++ (decimal number ++ (codes " source " ++ (decimal source ++ (codes " end " ++ (decimal end ++ (codes " flow " ++ (flow_text flow ++ (codes " length " ++ (decimal length ++ codes "\n")))))))))
+    codes "entry " ++ (decimal number
+    ++ (codes " source " ++ (decimal source
+    ++ (codes " end " ++ (decimal end
+    ++ (codes " flow " ++ (flow_text flow
+    ++ (codes " length " ++ (decimal length ++ codes "\n")))))))))
 
 -- behind the entries, how many they are
 abbrev pub entries_line : ℕ → List ℕ

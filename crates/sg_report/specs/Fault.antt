@@ -37,4 +37,6 @@ abbrev pub name_at : List (List ℕ) → ℕ → List ℕ
 name_at names file = unwrap_or (slice_get names file) []
 
 abbrev pub fault_text_of : ConfigFault → List (List ℕ) → List ℕ
-fault_text_of fault names = name_at names fault.file ++ (codes ":" ++ (decimal fault.line ++ (codes ": " ++ (kind_text_of fault.kind ++ codes "\n"))))
+fault_text_of fault names = name_at names fault.file
+    ++ (codes ":" ++ (decimal fault.line
+    ++ (codes ": " ++ (kind_text_of fault.kind ++ codes "\n"))))

@@ -38,7 +38,10 @@ abbrev pub sum_of : ℕ → ℕ → ℕ
 sum_of a b = min (a + b) (2 ^ 64 - 1)
 
 abbrev pub joined : SourceLine → SourceLine → SourceLine
-joined sum inlet = record sum { records = sum_of sum.records inlet.records; bad_frames = sum_of sum.bad_frames inlet.bad_frames }
+joined sum inlet = record sum {
+  records = sum_of sum.records inlet.records;
+  bad_frames = sum_of sum.bad_frames inlet.bad_frames;
+}
 
 abbrev pub position_text : Option ℕ → List ℕ
 position_text None = []
@@ -46,13 +49,17 @@ position_text (Some position) = codes " position " ++ decimal position
 
 abbrev pub line_text : SourceLine → List ℕ
 line_text line =
-    codes "source " ++ (decimal line.driver ++ (codes " records " ++ (decimal line.records ++ (codes " bad-frames " ++ (decimal line.bad_frames ++ (position_text line.position ++ codes "\n"))))))
+    codes "source " ++ (decimal line.driver
+    ++ (codes " records " ++ (decimal line.records
+    ++ (codes " bad-frames " ++ (decimal line.bad_frames
+    ++ (position_text line.position ++ codes "\n"))))))
 
 -- a line for each driver: the inlets of one stand together, and `sum` is what came of its inlets so far
 abbrev pub driver_lines : SourceLine → List SourceLine → List ℕ
 driver_lines sum [] = line_text sum
 driver_lines sum (inlet ∷ inlets) =
-    if inlet.driver == sum.driver then driver_lines (joined sum inlet) inlets else line_text sum ++ driver_lines inlet inlets
+    if inlet.driver == sum.driver then driver_lines (joined sum inlet) inlets
+    else line_text sum ++ driver_lines inlet inlets
 
 abbrev pub source_lines : List SourceLine → List ℕ
 source_lines [] = []
@@ -60,7 +67,11 @@ source_lines (inlet ∷ inlets) = driver_lines inlet inlets
 
 abbrev pub dest_text : ℕ → DestTally → List ℕ
 dest_text d dest =
-    codes "destination " ++ (decimal d ++ (codes " taken " ++ (decimal dest.taken ++ (codes " dropped-full " ++ (decimal dest.dropped_full ++ (codes " dropped-disk " ++ (decimal dest.dropped_disk ++ (codes " left " ++ (decimal dest.left ++ codes "\n")))))))))
+    codes "destination " ++ (decimal d
+    ++ (codes " taken " ++ (decimal dest.taken
+    ++ (codes " dropped-full " ++ (decimal dest.dropped_full
+    ++ (codes " dropped-disk " ++ (decimal dest.dropped_disk
+    ++ (codes " left " ++ (decimal dest.left ++ codes "\n")))))))))
 
 abbrev pub dest_lines : ℕ → List DestTally → List ℕ
 dest_lines d [] = []
@@ -69,7 +80,8 @@ dest_lines d (dest ∷ dests) = dest_text d dest ++ dest_lines (d + 1) dests
 -- the frames that a destination's buffer holds; where it holds none, nothing
 abbrev pub held_line : (ℕ × ℕ) → List ℕ
 held_line held =
-    if held.1 == 0 then [] else codes "buffer " ++ (decimal held.0 ++ (codes " held " ++ (decimal held.1 ++ codes "\n")))
+    if held.1 == 0 then [] else codes "buffer "
+    ++ (decimal held.0 ++ (codes " held " ++ (decimal held.1 ++ codes "\n")))
 
 abbrev pub held_lines : List (ℕ × ℕ) → List ℕ
 held_lines [] = []

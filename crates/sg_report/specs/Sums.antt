@@ -7,7 +7,8 @@ use Rattle.sg_report.specs.Report.{line_text, source_lines}
 -- the inlets of a driver
 abbrev pub inlets_of : ℕ → List SourceLine → List SourceLine
 inlets_of driver [] = []
-inlets_of driver (inlet ∷ inlets) = if inlet.driver == driver then inlet ∷ inlets_of driver inlets else inlets_of driver inlets
+inlets_of driver (inlet ∷ inlets) =
+    if inlet.driver == driver then inlet ∷ inlets_of driver inlets else inlets_of driver inlets
 
 -- a sum over inlets, 2 ^ 64 - 1 where it is greater
 abbrev pub total : (SourceLine → ℕ) → List SourceLine → ℕ

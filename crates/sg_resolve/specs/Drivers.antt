@@ -49,13 +49,16 @@ at_word kind call = record { kind = kind; line = spot_line (word_of call) }
 
 -- "too many": at each driver with which there are more
 abbrev pub limit_faults : ℕ → ℕ → Side → Call → List Placed
-limit_faults inlets destinations Source call = if nat_lt 128 inlets then at_word Limit call ∷ [] else []
-limit_faults inlets destinations Destination call = if nat_lt 64 destinations then at_word Limit call ∷ [] else []
+limit_faults inlets destinations Source call =
+    if nat_lt 128 inlets then at_word Limit call ∷ [] else []
+limit_faults inlets destinations Destination call =
+    if nat_lt 64 destinations then at_word Limit call ∷ [] else []
 
 -- "name defined twice": at a driver whose store one before has
 abbrev pub repeats : StoreCounts → Option (List ℕ) → Call → List Placed
 repeats stores None call = []
-repeats stores (Some name) call = if fin.contains_key stores name then at_word DuplicateName call ∷ [] else []
+repeats stores (Some name) call =
+    if fin.contains_key stores name then at_word DuplicateName call ∷ [] else []
 
 abbrev pub with_store : StoreCounts → Option (List ℕ) → StoreCounts
 with_store stores None = stores
@@ -71,7 +74,8 @@ first_with texts count inlets destinations side call =
 -- with a driver more
 unfoldable pub with_driver : TemplateTexts → DriverCounts → Side × Call → DriverCounts
 with_driver texts count driver = record {
-  first = first_with texts count (more_inlets count.inlets driver.0 driver.1) (more_destinations count.destinations driver.0) driver.0 driver.1;
+  first = first_with texts count (more_inlets count.inlets driver.0 driver.1)
+      (more_destinations count.destinations driver.0) driver.0 driver.1;
   inlets = more_inlets count.inlets driver.0 driver.1;
   destinations = more_destinations count.destinations driver.0;
   stores = with_store count.stores (store_of driver.0 driver.1);

@@ -15,4 +15,7 @@ abbrev pub IsFirstFault : List Statement → Option Placed → Type 0
 IsFirstFault statements fault =
     (names : Option Placed) × IsNamesFault statements names
     × (fault
-    ≡ earlier names (earlier (earlier (least (values_faults statements)) (least (globals_faults statements))) (earlier (counted (templates_of statements) statements).first (least (places_faults statements)))))
+    ≡ earlier names (earlier (earlier (least (values_faults statements))
+    (least (globals_faults statements)))
+    (earlier (counted (templates_of statements) statements).first
+    (least (places_faults statements)))))

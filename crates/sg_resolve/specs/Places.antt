@@ -19,7 +19,8 @@ abbrev pub placed : ConfigKind → Spot → Placed
 placed kind spot = record { kind = kind; line = spot_line spot }
 
 abbrev pub flag_faults : Spot → List Placed
-flag_faults flag = if same_keyword flag.token.text (codes "catchall") then placed BadValue flag ∷ [] else []
+flag_faults flag = if same_keyword flag.token.text (codes "catchall") then placed BadValue flag ∷ []
+    else []
 
 abbrev pub Faults : Type 0
 Faults = List Placed

@@ -17,7 +17,8 @@ text_of (Some spot) = spot.token.text
 -- the first of a name counts
 abbrev pub with_template : TemplateTexts → Spot → Option Spot → TemplateTexts
 with_template texts name text = record {
-  texts = if map.contains_key texts.texts name.token.text then texts.texts else map.insert texts.texts name.token.text (text_of text);
+  texts = if map.contains_key texts.texts name.token.text then texts.texts
+      else map.insert texts.texts name.token.text (text_of text);
 }
 
 abbrev pub with_object : TemplateTexts → Object → TemplateTexts

@@ -1,16 +1,13 @@
 -- A message made anew of the pairs that aren't picked.
-use Rattle.std.proofs.Common.{◌≡◌, ◌≤◌, ◌+◌, ℕ, zero, suc, Bool, true, false, List, [], ◌∷◌, ◌++◌, length, take, drop, slice_get, None, Some, bytes_eq, refl, sym, ap, subst, ◌∙◌, append_assoc, arith}
-use Rattle.std.proofs.lemmas.List.{take_more, take_all, take-append-drop}
-use Rattle.std.proofs.lemmas.Option.{slice_get_within, get_or_from_slice_get}
+use Rattle.std.proofs.Common.{◌≡◌, ◌+◌, ℕ, Bool, true, false, List, [], ◌∷◌, ◌++◌, drop, slice_get, Some, bytes_eq, refl, sym, ap, subst, ◌∙◌, append_assoc}
 use Rattle.std.specs.declared.cmp.Ordering.TheVariants.{Less}
-use Rattle.sg_msg.specs.Message.{Content, NameValue, byte_order, without_pair, with_all, has_tag, with_tag, IsNameBelow, IsAscending, AreDistinct}
+use Rattle.sg_msg.specs.Message.{Content, NameValue, byte_order, without_pair, with_all, IsNameBelow, IsAscending}
 use Rattle.sg_msg.specs.Build.{Build, built}
-use Rattle.sg_list.proofs.ListLemmas.{drop-get}
-use Rattle.sg_msg.proofs.ByteOrder.{test-same, test-less, test-back}
+use Rattle.sg_msg.proofs.ByteOrder.{test-same, test-less}
 use Rattle.sg_msg.proofs.ManyPairs.{all-ascending}
 use Rattle.sg_rewrite.specs.Values.{without_value}
 use Rattle.sg_rewrite.specs.Rewritten.{is_picked, unset_each, unpicked}
-use Rattle.sg_rewrite.proofs.Walks.{pair-next}
+use Rattle.sg_msg.proofs.PairWalks.{pair-next}
 
 -- none of the pairs has the name
 abbrev Lacks : List ℕ → List NameValue → Type 0
@@ -85,46 +82,6 @@ module _ (globs : List (List ℕ)) where
   pub unpicked-step : (put : List NameValue) (pair : NameValue) (pairs : List NameValue) →
       (put ++ unpicked globs (pair ∷ [])) ++ unpicked globs pairs ≡ put ++ unpicked globs (pair ∷ pairs)
   unpicked-step put pair pairs = append_assoc put (unpicked globs (pair ∷ [])) (unpicked globs pairs) ∙ ap (λ (ps : List NameValue). put ++ ps) (unpicked-first pair pairs)
-
--- a tag that isn't among these is none of them
-is-other : (first tag : List ℕ) (after others : List (List ℕ)) → has_tag first (others ++ tag ∷ after) ≡ false → bytes_eq tag first ≡ false
-is-other first tag after [] none = by (bytes_eq tag first) refl
-  where
-    by : (b : Bool) → bytes_eq tag first ≡ b → bytes_eq tag first ≡ false
-    by false is = is
-    by true is = let wrong : true ≡ false = rw is at none in absurd (cc)
-is-other first tag after (next ∷ others) none = by (λ rest. is-other first tag after others rest) (bytes_eq next first) refl
-  where
-    by : (has_tag first (others ++ tag ∷ after) ≡ false → bytes_eq tag first ≡ false) → (b : Bool) → bytes_eq next first ≡ b → bytes_eq tag first ≡ false
-    by further false is = further (rw is at none)
-    by further true is = let wrong : true ≡ false = rw is at none in absurd (cc)
-
--- a tag isn't among those before it
-fresh : (before : List (List ℕ)) (tag : List ℕ) (after : List (List ℕ)) → AreDistinct (before ++ tag ∷ after) → has_tag tag before ≡ false
-fresh [] tag after apart = refl
-fresh (first ∷ before) tag after apart =
-    let other : bytes_eq first tag ≡ false = test-back first tag ∙ is-other first tag after before apart.0 in
-    rw (other, fresh before tag after apart.1) refl
-
-tag-behind : (before : List (List ℕ)) (tag : List ℕ) (after : List (List ℕ)) → AreDistinct (before ++ tag ∷ after) → with_tag tag before ≡ before ++ tag ∷ []
-tag-behind before tag after apart = rw (fresh before tag after apart) refl
-
--- one tag on
-pub tag-next : (tags : List (List ℕ)) (place : ℕ) (tag : List ℕ) → AreDistinct tags → slice_get tags place ≡ Some tag → with_tag tag (take place tags) ≡ take (place + 1) tags
-tag-next tags place tag apart e =
-    let whole : take place tags ++ tag ∷ drop (place + 1) tags ≡ tags =
-    ap (λ (ts : List (List ℕ)). take place tags ++ ts) (sym (drop-get tags place tag e)) ∙ take-append-drop place tags in
-    let more : take (place + 1) tags ≡ take place tags ++ tag ∷ [] =
-    take_more tags place tag (slice_get_within tags place tag e) ∙ ap (λ (t : List ℕ). take place tags ++ t ∷ []) (get_or_from_slice_get tags place tag tag e) in
-    tag-behind (take place tags) tag (drop (place + 1) tags) (subst (λ (ts : List (List ℕ)). AreDistinct ts) (sym whole) apart) ∙ sym more
-
-end-at : (tags : List (List ℕ)) (place : ℕ) → slice_get tags place ≡ None → length tags ≤ place
-end-at [] place e = omega arith
-end-at (first ∷ tags) zero e = absurd (cc)
-end-at (first ∷ tags) (suc place) e = omega (arith, end-at tags place e)
-
-pub tags-end : (tags : List (List ℕ)) (place : ℕ) → slice_get tags place ≡ None → take place tags ≡ tags
-tags-end tags place e = take_all place tags (end-at tags place e)
 
 module _ (globs : List (List ℕ)) where
   -- one pair on, in what is made anew

@@ -43,12 +43,14 @@ set_each globs parts (pair ∷ pairs) content =
 abbrev pub unset_each : List (List ℕ) → List NameValue → Content → Content
 unset_each globs [] content = content
 unset_each globs (pair ∷ pairs) content =
-    if is_picked globs pair.name then without_value pair.name (unset_each globs pairs content) else unset_each globs pairs content
+    if is_picked globs pair.name then without_value pair.name (unset_each globs pairs content)
+    else unset_each globs pairs content
 
 -- the pairs whose names aren't picked
 abbrev pub unpicked : List (List ℕ) → List NameValue → List NameValue
 unpicked globs [] = []
-unpicked globs (pair ∷ pairs) = if is_picked globs pair.name then unpicked globs pairs else pair ∷ unpicked globs pairs
+unpicked globs (pair ∷ pairs) =
+    if is_picked globs pair.name then unpicked globs pairs else pair ∷ unpicked globs pairs
 
 -- Groups are of the names that the message has before it, in byte order.
 unfoldable pub rewritten : Change → Content → Content

@@ -13,7 +13,8 @@ pub record SameOffers (old new : ℕ → Record → List Offer → Type 0) : Typ
   pub back : (i : ℕ) (r : Record) (offers : List Offer) → new i r offers → old i r offers
 
 -- a router that knows as much, and says the same
-pub record SameRouter (offers offers' : ℕ → Record → List Offer → Type 0) (inlets inlets' dests dests' : ℕ) : Type 0 where
+pub record SameRouter (offers offers' : ℕ → Record → List Offer → Type 0)
+    (inlets inlets' dests dests' : ℕ) : Type 0 where
   pub same : SameOffers offers offers'
   pub inlets_same : inlets' ≡ inlets
   pub dests_same : dests' ≡ dests

@@ -1,8 +1,8 @@
 -- The run of a configuration file.
-use Rattle.std.proofs.Common.{◌<◌, ◌^◌, ℕ, Bool, List, Some, Result, Ok, Err, inl, inr, refl, subst, arith}
+use Rattle.std.proofs.Common.{◌<◌, ◌^◌, ℕ, Bool, List, Some, Result, Ok, Err, inl, inr, refl, subst}
 use Rattle.sg_device.specs.Inlet.{InletState}
 use Rattle.sg_device.specs.Outlet.{OutletState}
-use Rattle.sg_outside.specs.World.{WorldState, OnlyReads}
+use Rattle.sg_outside.specs.World.{WorldState}
 use Rattle.sg_pipes.specs.declared.pipes.Pipes.{Pipes}
 use Rattle.sg_config.specs.Alike.{IsConfigWithin}
 use Rattle.sg_config.specs.declared.config.Config.{Config}
@@ -79,13 +79,6 @@ left-starved old loaded file (Ok outcome) is = absurd is
 left-starved old loaded file (Err (Bad fault names)) is = absurd is
 left-starved old loaded file (Err (Unread name)) is = absurd is
 left-starved old loaded file (Err NoMemory) is = tt
-
--- a configuration is loaded as well where files were read again behind it
-pub loads-read : (old loaded new : WorldState) → OnlyLoads old loaded → OnlyReads loaded new → OnlyLoads old new
-loads-read old loaded new loads reads =
-    let (is, read, build) = loads in
-    let (same, more) = reads in
-    (grind arith, grind arith, grind arith)
 
 pub file-ran : {I O : Type 0} (feed : I → InletState) (drain : O → OutletState) (old loaded new : WorldState) (file : List ℕ) (once : Bool) (rounds : ℕ) (of_file : Loaded) (result : Result Outcome Unloaded) → OnlyLoads old loaded
     → IsConfigured old file of_file → RunsConfig feed drain loaded new of_file.config once rounds result → RunsFile feed drain old new file once rounds result

@@ -24,7 +24,8 @@ use Rattle.sg_run.specs.declared.end.Outcome.{Outcome}
 
 -- A run of the configuration whose core was opened: the bytes of its files, behind which events it was stopped with which one on, and what that left
 -- in its stores.
-pub record ConfigRun {I O : Type 0} (feed : I → InletState) (drain : O → OutletState) (config : Config) : Type 0 where
+pub record ConfigRun {I O : Type 0} (feed : I → InletState) (drain : O → OutletState)
+    (config : Config) : Type 0 where
   pub once : Bool
   pub old : WorldState
   pub new : WorldState
@@ -59,7 +60,9 @@ plan_run by are run = record {
 }
 
 -- its stores held this, the machine told its files, and so it was stopped
-pub record IsConfigRun {I O : Type 0} {feed : I → InletState} {drain : O → OutletState} {config : Config} (by : List Pipes) (are : AreRouters config by) (before : List (List ℕ)) (run : ConfigRun feed drain config) : Type 0 where
+pub record IsConfigRun {I O : Type 0} {feed : I → InletState} {drain : O → OutletState}
+    {config : Config} (by : List Pipes) (are : AreRouters config by) (before : List (List ℕ))
+    (run : ConfigRun feed drain config) : Type 0 where
   pub stores : TellThese ((run.ran).reached).stores before
   pub files : TellFiles (run.old).files (planned config run.once) ((run.ran).reached).inlets
       run.bytes
@@ -68,7 +71,8 @@ pub record IsConfigRun {I O : Type 0} {feed : I → InletState} {drain : O → O
 
 -- a run of the configuration that was stopped before its core was open, and what that left in its
 -- stores
-pub record UnopenedConfigRun {I O : Type 0} (feed : I → InletState) (drain : O → OutletState) (config : Config) : Type 0 where
+pub record UnopenedConfigRun {I O : Type 0} (feed : I → InletState) (drain : O → OutletState)
+    (config : Config) : Type 0 where
   pub once : Bool
   pub old : WorldState
   pub new : WorldState
@@ -91,7 +95,8 @@ unopened_plan_run run = record {
 }
 
 -- a run, stopped once its core was open, or before that
-pub data ConfigRunOf {I O : Type 0} (feed : I → InletState) (drain : O → OutletState) (config : Config) : Type 0 where
+pub data ConfigRunOf {I O : Type 0} (feed : I → InletState) (drain : O → OutletState)
+    (config : Config) : Type 0 where
   Opened : ConfigRun feed drain config → ConfigRunOf feed drain config
   Unopened : UnopenedConfigRun feed drain config → ConfigRunOf feed drain config
 

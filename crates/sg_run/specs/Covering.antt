@@ -32,13 +32,18 @@ CleanSo plan reached (Ran Quiet (Some counts)) bytes =
 CleanSo plan reached (Ran Spent counts) bytes = Unit {0}
 CleanSo plan reached (Ran NoMemory counts) bytes = Unit {0}
 
-pub record StaysCovered {offers : Offers} {files : Option Files} {plan : RunPlan} {reached : Reached} {run : CoreRun} (ending : PlanEnded) (happened : Happened offers files plan reached run) (bytes : ℕ → List ℕ) (taken : List Delivery) (passes : List Pass) (places : ℕ → ℕ) : Type 0 where
+pub record StaysCovered {offers : Offers} {files : Option Files} {plan : RunPlan}
+    {reached : Reached} {run : CoreRun} (ending : PlanEnded)
+    (happened : Happened offers files plan reached run) (bytes : ℕ → List ℕ) (taken : List Delivery)
+    (passes : List Pass) (places : ℕ → ℕ) : Type 0 where
   pub leaves : LeavesCovered happened bytes taken passes places
   pub clean : CleanSo plan reached ending bytes
 
 -- What is covered by these routers stays so, over stores that tell their bytes and a machine that tells its files: at the return, and, where the
 -- core was opened, at every moment since then.
-pub record Covers {R : Type 0} (offers : R → ℕ → Record → List Offer → Type 0) (files : Option Files) (plan : RunPlan) (by : List R) (reached : Reached) (ending : PlanEnded) : Type 0 where
+pub record Covers {R : Type 0} (offers : R → ℕ → Record → List Offer → Type 0)
+    (files : Option Files) (plan : RunPlan) (by : List R) (reached : Reached)
+    (ending : PlanEnded) : Type 0 where
   -- without a core nothing was taken, and no record came in
   pub unopened : (bytes : ℕ → List ℕ) (taken : List Delivery) (passes : List Pass) (places : ℕ → ℕ)
       → reached.core ≡ None

@@ -33,7 +33,8 @@ NewConfigRunsAddUp feed drain =
 abbrev pub ConfigRunsStayCovered : {I O : Type 0} → (I → InletState) → (O → OutletState) → Type 0
 ConfigRunsStayCovered feed drain =
     (tokens : List Token) (config : Config) (by : List Pipes) (are : AreRouters config by)
-    (bytes : ℕ → List ℕ) (runs : List (ConfigRunOf feed drain config)) (lists : List (List BufferedEntry))
+    (bytes : ℕ → List ℕ) (runs : List (ConfigRunOf feed drain config))
+    (lists : List (List BufferedEntry))
     → Means tokens config
     → ConfigRunsFollow by are bytes (new_stores_of config) runs
     → AreListsBy config.setup.dests
@@ -41,7 +42,9 @@ ConfigRunsStayCovered feed drain =
     → PlanRunsLeave bytes (new_stores_of config) (map (run_of by are) runs) lists
 
 -- The run ended with status 0 and returned.
-pub record ReturnsClean {I O : Type 0} {feed : I → InletState} {drain : O → OutletState} {config : Config} (by : List Pipes) (are : AreRouters config by) (run : ConfigRun feed drain config) : Type 0 where
+pub record ReturnsClean {I O : Type 0} {feed : I → InletState} {drain : O → OutletState}
+    {config : Config} (by : List Pipes) (are : AreRouters config by)
+    (run : ConfigRun feed drain config) : Type 0 where
   pub clean : IsClean run.result
   pub returned : StopsThen (plan_run by are run).happened run.events run.event run.images
 

@@ -58,7 +58,8 @@ PlanEndsBy drivers files (Ran ended (Some counts)) outcome = ReportsBy drivers f
 -- The run of a plan ended so, which is told, and its text is the report, or the line on what kept its rounds from beginning. Lack of memory
 -- is free.
 abbrev pub TellsOutcome : RunPlan → PlanEnded → Result Outcome Unloaded → Type 0
-TellsOutcome plan ending (Ok outcome) = PlanEndsBy (drivers_in plan.inlets.items) (files_in plan.setup.sources)
+TellsOutcome plan ending (Ok outcome) =
+    PlanEndsBy (drivers_in plan.inlets.items) (files_in plan.setup.sources)
     ending (Some outcome)
 TellsOutcome plan ending (Err (Bad fault names)) = ⊥
 TellsOutcome plan ending (Err (Unread name)) = ⊥

@@ -13,7 +13,8 @@ use Rattle.sg_one_run.specs.Resting.{RunRests}
 use Rattle.sg_one_run.specs.Ending.{EndsRounds}
 
 -- Behind a quiet round nothing is left to do; and where nothing failed either, all input was taken, and all that was kept was delivered.
-pub record IsQuietRun {R : Type 0} (offers : R → ℕ → Record → List Offer → Type 0) (plan : RunPlan) (routers : List R) (reached : Reached) (counts : Option Counts) (run : CoreRun) : Type 0 where
+pub record IsQuietRun {R : Type 0} (offers : R → ℕ → Record → List Offer → Type 0) (plan : RunPlan)
+    (routers : List R) (reached : Reached) (counts : Option Counts) (run : CoreRun) : Type 0 where
   pub rests : RunRests offers plan routers reached run run.made
   pub clean : IfSome counts (λ (c : Counts). first_fault c.sinks c.stores c.inlets ≡ None
       → EndsRounds offers plan routers reached run run.made)

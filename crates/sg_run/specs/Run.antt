@@ -36,7 +36,9 @@ dests_by pipes = length pipes.table.dests.items
 
 -- A configuration was run, from one state of the machine to another: its devices were opened, the rounds run over them, so many at most,
 -- and the devices closed.
-pub record RunsBy {I O : Type 0} (feed : I → InletState) (drain : O → OutletState) (loaded new : WorldState) (config : Config) (once : Bool) (rounds : ℕ) (result : Result Outcome Unloaded) : Type 0 where
+pub record RunsBy {I O : Type 0} (feed : I → InletState) (drain : O → OutletState)
+    (loaded new : WorldState) (config : Config) (once : Bool) (rounds : ℕ)
+    (result : Result Outcome Unloaded) : Type 0 where
   pub routers : List Pipes
   pub are_routers : AreRouters config routers
   pub ending : PlanEnded

@@ -21,7 +21,7 @@ use sg_one_run::{
 use sg_pipes::Pipes;
 use sg_serve::run_plan;
 use sg_table::Table;
-use sg_warnings::tell_warnings;
+use sg_warnings::{stats_freq, tell_warnings};
 use sg_world::World;
 use std::alloc::Global;
 use std::sync::Wait;
@@ -45,6 +45,7 @@ fn run_by<T: Threads + Wait + Eprint + Sync, W: World>(
     routers: Vec<Pipes>,
     lines: ReportRows,
     rounds: u64,
+    freq: u32,
     world: &mut W,
 ) -> Result<Outcome, Unloaded>
     requires within { IsConfigWithin config }
@@ -66,7 +67,7 @@ fn run_by<T: Threads + Wait + Eprint + Sync, W: World>(
     plan_runs_end_clean(world, routers.as_slice());
     plan_runs_rest(world, routers.as_slice());
     let plan = plan_of(config, once);
-    let ending = run_plan(rt, alloc, plan, routers, rounds, world);
+    let ending = run_plan(rt, alloc, plan, routers, rounds, freq, world);
     match outcome_of(alloc, lines, ending) {
         Ok(Some(outcome)) => Ok(outcome),
         Ok(None) => Err(Unloaded::NoMemory),
@@ -81,6 +82,7 @@ fn run_config<T: Threads + Wait + Eprint + Sync, W: World>(
     loaded: Loaded,
     once: bool,
     rounds: u64,
+    freq: u32,
     world: &mut W,
 ) -> Result<Outcome, Unloaded>
     requires within { IsConfigWithin loaded.config }
@@ -99,7 +101,7 @@ fn run_config<T: Threads + Wait + Eprint + Sync, W: World>(
     let Ok(routers) = routers_of(alloc, table, config.inlets.len()) else {
         return Err(Unloaded::NoMemory);
     };
-    run_by(rt, alloc, config, once, routers, lines, rounds, world)
+    run_by(rt, alloc, config, once, routers, lines, rounds, freq, world)
 }
 
 /// Loads the configuration FILE and runs it: opens its devices, runs the rounds over them, so many at
@@ -126,7 +128,8 @@ pub fn run_file<T: Threads + Wait + Eprint + Sync, W: World>(
     match load_file(alloc, file, world) {
         Ok(loaded) => {
             tell_warnings(alloc, world, file);
-            run_config(rt, alloc, loaded, once, rounds, world)
+            let freq = stats_freq(alloc, world, file);
+            run_config(rt, alloc, loaded, once, rounds, freq, world)
         }
         Err(unloaded) => Err(unloaded),
     }

@@ -11,7 +11,7 @@ use Rattle.sg_outside.specs.declared.request.OutletSpec.TheVariants.{File, Tcp, 
 use Rattle.sg_list.proofs.ListLemmas.{some-same}
 use Rattle.sg_serve.specs.Devices.{opened_for, with_all_opened, with_all_closed, AllAreNew, OpensOutlets, ClosesEach, ClosesOutlets}
 use Rattle.sg_serve.specs.Early.{OutletsFail, outlet_refusal}
-use Rattle.sg_serve.specs.Exits.{Out, outlets_in, singles, by_paths, present, OpensOut, OpensExit, MissesExit, IsAsked, OnlyFails, ClosesOut, ClosesExit, AreLeft, AllLie, AreAsked, AllAreNewOpeners}
+use Rattle.sg_serve.specs.Exits.{Out, outlets_in, singles, by_paths, present, OpensOut, OpensExit, MissesExit, IsOpenerAsked, OnlyFails, ClosesOut, ClosesExit, AreLeft, AllLie, AreAsked, AllAreNewOpeners}
 use Rattle.sg_serve.proofs.DeviceLemmas.{opened-none, opened-two, closed-none, closed-join, below}
 
 -- None.
@@ -37,7 +37,7 @@ outlets-none w specs = outlets-kept w w specs (refl, omega arith, omega arith)
 
 -- One.
 
-pub outlets-one : (old new : WorldState) (spec : OutletSpec) (drain : OutletState) (opener : Option PathsState) → IsAsked spec opener → IsUnusedOutlet drain → OpensOut old new spec drain opener → OpensOutlets old new (spec ∷ []) (drain ∷ [])
+pub outlets-one : (old new : WorldState) (spec : OutletSpec) (drain : OutletState) (opener : Option PathsState) → IsOpenerAsked spec opener → IsUnusedOutlet drain → OpensOut old new spec drain opener → OpensOutlets old new (spec ∷ []) (drain ∷ [])
 outlets-one old new spec drain None asked is_new h =
     let same : new.paths_faults ≡ old.paths_faults = ap (λ (w : WorldState). w.paths_faults) h.0 in
     let one = with_all_opened old.outlets ((record { spec = spec; state = drain }) ∷ []) in
@@ -72,12 +72,12 @@ outlets-one old new spec drain (Some opener) asked is_new h =
     }
 
 -- what is asked for is one file or one connection, or it is an opener
-asked-none : (spec : OutletSpec) → (IsByPath spec → ⊥) → IsAsked spec None
+asked-none : (spec : OutletSpec) → (IsByPath spec → ⊥) → IsOpenerAsked spec None
 asked-none (File path fsync mode folders reopen) not = refl
 asked-none (Tcp host port reopen) not = refl
 asked-none (ByPath fsync mode folders reopen reap) not = absurd (not tt)
 
-asked-some : (spec : OutletSpec) (opener : PathsState) → IsByPath spec → IsAsked spec (Some opener)
+asked-some : (spec : OutletSpec) (opener : PathsState) → IsByPath spec → IsOpenerAsked spec (Some opener)
 asked-some (File path fsync mode folders reopen) opener is = absurd is
 asked-some (Tcp host port reopen) opener is = absurd is
 asked-some (ByPath fsync mode folders reopen reap) opener is = tt
@@ -120,7 +120,7 @@ refused-fails old new d NoMemory h = tt
 asked-join : (specs : List OutletSpec) (openers more : List (Option PathsState)) (spec : OutletSpec) → AreAsked specs openers → slice_get specs (length openers) ≡ Some spec → AreAsked (spec ∷ []) more → AreAsked specs (openers ++ more)
 asked-join specs [] [] spec a at b = tt
 asked-join [] [] (m ∷ ms) spec a at b = let wrong : None ≡ Some spec = at in cc
-asked-join (p ∷ ps) [] (m ∷ []) spec a at b = (subst (λ (q : OutletSpec). IsAsked q m) (sym (some-same p spec at)) b.0, tt)
+asked-join (p ∷ ps) [] (m ∷ []) spec a at b = (subst (λ (q : OutletSpec). IsOpenerAsked q m) (sym (some-same p spec at)) b.0, tt)
 asked-join (p ∷ ps) [] (m ∷ n ∷ ms) spec a at b = absurd b.1
 asked-join [] (o ∷ os) more spec a at b = absurd a
 asked-join (p ∷ ps) (o ∷ os) more spec a at b = (a.0, asked-join ps os more spec a.1 at b)

@@ -49,9 +49,16 @@ abbrev pub feed_of : SourceView → InletState
 feed_of view = view.state.source.feed
 
 -- It is the source of the inlet of that number of a plan. It has read nothing.
-pub record IsSourceFor (i : ℕ) (plan : InletPlan) (store : Option ℕ) (view : SourceView) : Type 0 where
-  pub spec_is : view.spec ≡ record
-      { inlet = i; kind = plan.kind; limit = plan.limit; fetch = plan.fetch; from = (feed_of view).from; stored = is_some store }
+pub record IsSourceFor (i : ℕ) (plan : InletPlan) (store : Option ℕ)
+    (view : SourceView) : Type 0 where
+  pub spec_is : view.spec ≡ record {
+    inlet = i;
+    kind = plan.kind;
+    limit = plan.limit;
+    fetch = plan.fetch;
+    from = (feed_of view).from;
+    stored = is_some store;
+  }
   pub is : IsNewSource (λ j r offers. Unit {0}) view.dests view.spec view.state
 
 abbrev pub AreSourcesFor : List InletPlan → List SourceSetup → List SourceView → Type 0
@@ -62,12 +69,14 @@ AreSourcesFor plans setups views =
     → IsSourceFor i plan setup.store view
 
 -- a source for each inlet of a plan
-pub record AreAllSources (plans : List InletPlan) (setups : List SourceSetup) (views : List SourceView) : Type 0 where
+pub record AreAllSources (plans : List InletPlan) (setups : List SourceSetup)
+    (views : List SourceView) : Type 0 where
   pub all : length views ≡ length plans
   pub each : AreSourcesFor plans setups views
 
 -- The inlet gives from the stored position on, from its beginning where no record of the file can have ended there.
-pub record BeginsAt (files : Option Files) (spec : InletSpec) (position : ℕ) (feed : InletState) : Type 0 where
+pub record BeginsAt (files : Option Files) (spec : InletSpec) (position : ℕ)
+    (feed : InletState) : Type 0 where
   pub fresh : IsFresh feed
   pub stands : StandsIn files spec position feed
 
@@ -77,6 +86,7 @@ AllBeginAt files positions specs feeds =
     → slice_get feeds i ≡ Some feed → BeginsAt files spec (positions i) feed
 
 -- These inlets were opened, in order, each at its stored position.
-pub record OpensAt (old new : WorldState) (specs : List InletSpec) (positions : ℕ → ℕ) (feeds : List InletState) : Type 0 where
+pub record OpensAt (old new : WorldState) (specs : List InletSpec) (positions : ℕ → ℕ)
+    (feeds : List InletState) : Type 0 where
   pub opens : OpensInlets old new specs feeds
   pub begin : AllBeginAt old.files positions specs feeds

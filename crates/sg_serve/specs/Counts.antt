@@ -31,7 +31,8 @@ first_fault [] [] (i ∷ is) = Some (InletFault i)
 first_fault [] [] [] = None
 
 -- The numbers that the core has come to; for each inlet the number of its bad parts; and those that failed, in order.
-pub record AreCountsOf {R I O : Type 0} (core : CoreState) (sources : List (SourceActor R I)) (dests : List (DestActor O)) (counts : Counts) : Type 0 where
+pub record AreCountsOf {R I O : Type 0} (core : CoreState) (sources : List (SourceActor R I))
+    (dests : List (DestActor O)) (counts : Counts) : Type 0 where
   pub tally : Tallies core counts.tally
   pub bad_frames : counts.bad_frames ≡ map (λ (a : SourceActor R I). a.bad_frames) sources
   pub sinks : counts.sinks

@@ -75,10 +75,14 @@ AreStoresNamed before (o ∷ os) after = (between : Option (List (List ℕ)))
     × StandsNamed before o.spec o.state between × AreStoresNamed between os after
 
 -- these were opened on the first of the requests, in order, and nothing else changed but the count of faults
-pub record OpensStores (old new : WorldState) (specs : List StoreSpec) (disks : List DiskState) : Type 0 where
+pub record OpensStores (old new : WorldState) (specs : List StoreSpec)
+    (disks : List DiskState) : Type 0 where
   pub count : length disks ≤ length specs
-  pub state : new ≡ record old
-      { store_faults = new.store_faults; store_names = new.store_names; stores = with_all_opened old.stores (opened_for specs disks) }
+  pub state : new ≡ record old {
+    store_faults = new.store_faults;
+    store_names = new.store_names;
+    stores = with_all_opened old.stores (opened_for specs disks);
+  }
   pub faults : old.store_faults ≤ new.store_faults
   pub named : AreStoresNamed old.store_names (opened_for specs disks) new.store_names
 
@@ -87,10 +91,13 @@ ClosesStores old new disks = new ≡ record old { stores = with_all_closed old.s
 
 -- Inlets.
 
-pub record OpensInlets (old new : WorldState) (specs : List InletSpec) (feeds : List InletState) : Type 0 where
+pub record OpensInlets (old new : WorldState) (specs : List InletSpec)
+    (feeds : List InletState) : Type 0 where
   pub count : length feeds ≤ length specs
-  pub state : new ≡ record old
-      { inlet_faults = new.inlet_faults; inlets = with_all_opened old.inlets (opened_for specs feeds) }
+  pub state : new ≡ record old {
+    inlet_faults = new.inlet_faults;
+    inlets = with_all_opened old.inlets (opened_for specs feeds);
+  }
   pub faults : old.inlet_faults ≤ new.inlet_faults
 
 abbrev pub ClosesInlets : WorldState → WorldState → List InletState → Type 0
@@ -104,7 +111,8 @@ AllAreNew [] = Unit {0}
 AllAreNew (drain ∷ drains) = IsUnusedOutlet drain × AllAreNew drains
 
 -- each by its ledger: one file or one connection, or an opener of files by their paths
-pub record OpensOutlets (old new : WorldState) (specs : List OutletSpec) (drains : List OutletState) : Type 0 where
+pub record OpensOutlets (old new : WorldState) (specs : List OutletSpec)
+    (drains : List OutletState) : Type 0 where
   pub openers : List (Option PathsState)
   pub each : length openers ≡ length drains
   pub count : length drains ≤ length specs
@@ -114,7 +122,8 @@ pub record OpensOutlets (old new : WorldState) (specs : List OutletSpec) (drains
   pub state : new ≡ record old {
     outlet_faults = new.outlet_faults;
     paths_faults = new.paths_faults;
-    outlets = with_all_opened old.outlets (opened_for (singles specs openers) (singles drains openers));
+    outlets = with_all_opened old.outlets
+        (opened_for (singles specs openers) (singles drains openers));
     paths = with_all_opened old.paths (opened_for (by_paths specs openers) (present openers));
   }
   pub faults : old.outlet_faults ≤ new.outlet_faults
@@ -123,8 +132,10 @@ pub record OpensOutlets (old new : WorldState) (specs : List OutletSpec) (drains
 -- these outlets were closed, each by its ledger: those without an opener, and the openers
 abbrev pub ClosesEach : WorldState → WorldState → List OutletState → List (Option PathsState)
     → Type 0
-ClosesEach old new drains openers = new ≡ record old
-    { outlets = with_all_closed old.outlets (singles drains openers); paths = with_all_closed old.paths (present openers) }
+ClosesEach old new drains openers = new ≡ record old {
+  outlets = with_all_closed old.outlets (singles drains openers);
+  paths = with_all_closed old.paths (present openers);
+}
 
 abbrev pub ClosesOutlets : WorldState → WorldState → List Out → Type 0
 ClosesOutlets old new outs = (openers : List (Option PathsState)) × AreLeft outs openers

@@ -45,7 +45,8 @@ inlet_refusal i OpenNoMemory = NoMemory
 -- Why a source isn't ready, with its inlet where that was opened: it couldn't be, or the store failed as the source was to begin anew.
 abbrev pub SourceFailsToOpen : WorldState → WorldState → CoreState → CoreState → ℕ → Option ℕ
     → Option InletState → Early → Type 0
-SourceFailsToOpen old new core core' i store None early = (core' ≡ core) × InletsFail old new i early
+SourceFailsToOpen old new core core' i store None early =
+    (core' ≡ core) × InletsFail old new i early
 SourceFailsToOpen old new core core' i store (Some feed) NoMemory = BeginsSource core core' i
     (position_at core i) feed.place true
 SourceFailsToOpen old new core core' i store (Some feed) (DiskFault s) = (store ≡ Some s)

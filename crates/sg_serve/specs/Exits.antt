@@ -20,7 +20,8 @@ pub record Out : Type 0 where
 
 abbrev pub out_of : {D P : Type 0} → (D → OutletState) → (P → PathsState) → Exit D P → Out
 out_of drain paths (One d) = record { outlet = drain d; opener = None }
-out_of drain paths (ByPath files) = record { outlet = outlet_of paths files; opener = Some (paths files.opener) }
+out_of drain paths (ByPath files) =
+    record { outlet = outlet_of paths files; opener = Some (paths files.opener) }
 
 abbrev pub exit_of : {D P : Type 0} → (D → OutletState) → (P → PathsState) → Exit D P → OutletState
 exit_of drain paths exit = (out_of drain paths exit).outlet
@@ -63,14 +64,14 @@ OpensOut old new spec drain (Some opener) = (new ≡ record old
     × (old.paths_faults ≤ new.paths_faults) × IsNewOpener opener
 
 -- the paths of its files come with their texts exactly where that is asked
-abbrev pub IsAsked : OutletSpec → Option PathsState → Type 0
-IsAsked (File path fsync mode folders reopen) opener = opener ≡ None
-IsAsked (Tcp host port reopen) opener = opener ≡ None
-IsAsked (ByPathSpec fsync mode folders reopen reap) None = ⊥
-IsAsked (ByPathSpec fsync mode folders reopen reap) (Some opener) = Unit {0}
+abbrev pub IsOpenerAsked : OutletSpec → Option PathsState → Type 0
+IsOpenerAsked (File path fsync mode folders reopen) opener = opener ≡ None
+IsOpenerAsked (Tcp host port reopen) opener = opener ≡ None
+IsOpenerAsked (ByPathSpec fsync mode folders reopen reap) None = ⊥
+IsOpenerAsked (ByPathSpec fsync mode folders reopen reap) (Some opener) = Unit {0}
 
 pub record OpensExit (old new : WorldState) (spec : OutletSpec) (out : Out) : Type 0 where
-  pub asked : IsAsked spec out.opener
+  pub asked : IsOpenerAsked spec out.opener
   pub new_outlet : IsUnusedOutlet out.outlet
   pub opens : OpensOut old new spec out.outlet out.opener
 
@@ -127,7 +128,7 @@ AllLie (outlet ∷ outlets) (Some opener ∷ openers) = LieUnderPaths outlet.tak
 abbrev pub AreAsked : List OutletSpec → List (Option PathsState) → Type 0
 AreAsked specs [] = Unit {0}
 AreAsked [] (opener ∷ openers) = ⊥
-AreAsked (spec ∷ specs) (opener ∷ openers) = IsAsked spec opener × AreAsked specs openers
+AreAsked (spec ∷ specs) (opener ∷ openers) = IsOpenerAsked spec opener × AreAsked specs openers
 
 abbrev pub AllAreNewOpeners : List (Option PathsState) → Type 0
 AllAreNewOpeners [] = Unit {0}

@@ -18,7 +18,8 @@ pub record IsRunnable (plan : RunPlan) : Type 0 where
   pub fetches : AreFetching plan.inlets.items
 
 -- there is a router for each inlet, which knows as many inlets and destinations as the plan has
-pub record AllKnow {R : Type 0} (inlets dests : R → ℕ) (plan : RunPlan) (routers : List R) : Type 0 where
+pub record AllKnow {R : Type 0} (inlets dests : R → ℕ) (plan : RunPlan)
+    (routers : List R) : Type 0 where
   pub all : length routers ≡ length plan.inlets.items
   pub each : (i : ℕ) (router : R) → slice_get routers i ≡ Some router
       → (inlets router ≡ length plan.inlets.items) × (dests router ≡ length plan.setup.dests)

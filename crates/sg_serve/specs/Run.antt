@@ -115,7 +115,8 @@ pub record UsesDevices (old new : WorldState) (plan : RunPlan) (reached : Reache
 -- The core.
 
 -- Behind the sources before it, the store of the last one failed as that was to begin anew.
-pub record FailsLast (first : CoreState) (feeds : List InletState) (prelude : List Event) : Type 0 where
+pub record FailsLast (first : CoreState) (feeds : List InletState)
+    (prelude : List Event) : Type 0 where
   pub front : List InletState
   pub last : InletState
   pub failed : List ℕ
@@ -138,8 +139,11 @@ RestsWithout setup reached =
 -- The rounds.
 
 -- The rounds were run over these sources and destinations, which are those of the plan.
-pub record RunsRounds {R I O : Type 0} (feed : I → InletState) (drain : O → OutletState) (offers : R → ℕ → Record → List Offer → Type 0) (inlets dests : R → ℕ)
-    (plan : RunPlan) (routers : List R) (rounds : ℕ) (run : CoreRun) (opened closed : List InletState) (new old : List OutletState) (ended : Ended) (counts : Option Counts) : Type 0 where
+pub record RunsRounds {R I O : Type 0} (feed : I → InletState) (drain : O → OutletState)
+    (offers : R → ℕ → Record → List Offer → Type 0) (inlets dests : R → ℕ)
+    (plan : RunPlan) (routers : List R) (rounds : ℕ) (run : CoreRun)
+    (opened closed : List InletState) (new old : List OutletState) (ended : Ended)
+    (counts : Option Counts) : Type 0 where
   pub sources : List (SourceActor R I)
   pub sources_then : List (SourceActor R I)
   pub dests_first : List (DestActor O)
@@ -173,8 +177,10 @@ pub record StaysUnserved (plan : RunPlan) (reached : Reached) (run : CoreRun) : 
   pub order : (length reached.inlets ≡ length plan.inlets.items) ⊎ (reached.outlets ≡ [])
 
 -- In the rounds all devices are open, and all sources that had to begin anew did so.
-pub record IsServed {R I O : Type 0} (feed : I → InletState) (drain : O → OutletState) (offers : R → ℕ → Record → List Offer → Type 0) (inlets dests : R → ℕ)
-    (plan : RunPlan) (routers : List R) (rounds : ℕ) (reached : Reached) (run : CoreRun) (ended : Ended) (counts : Option Counts) : Type 0 where
+pub record IsServed {R I O : Type 0} (feed : I → InletState) (drain : O → OutletState)
+    (offers : R → ℕ → Record → List Offer → Type 0) (inlets dests : R → ℕ)
+    (plan : RunPlan) (routers : List R) (rounds : ℕ) (reached : Reached) (run : CoreRun)
+    (ended : Ended) (counts : Option Counts) : Type 0 where
   pub rewinds : run.prelude ≡ rewinds_from (position_at run.first) 0 (places_of reached.inlets)
   pub runs : RunsRounds feed drain offers inlets dests plan routers rounds run reached.inlets
       reached.inlets_closed reached.outlets reached.outlets_closed ended counts
@@ -182,7 +188,8 @@ pub record IsServed {R I O : Type 0} (feed : I → InletState) (drain : O → Ou
   pub all_outlets : length reached.outlets ≡ length plan.outlets.items
 
 -- with a core
-pub record HoldsRun (files : Option Files) (plan : RunPlan) (reached : Reached) (run : CoreRun) : Type 0 where
+pub record HoldsRun (files : Option Files) (plan : RunPlan) (reached : Reached)
+    (run : CoreRun) : Type 0 where
   pub core : HoldsCore plan.setup reached run
   pub all_stores : length reached.stores ≡ length plan.stores.items
   pub begin_at : AllBeginAt files (position_at run.first) (inlets_asked plan.once plan.inlets.items)
@@ -199,10 +206,13 @@ abbrev pub PlanRunHolds : {R I O : Type 0} → (I → InletState) → (O → Out
     → ℕ → Reached → Option CoreRun → PlanEnded → Type 0
 PlanRunHolds feed drain offers inlets dests files plan routers rounds reached None (Before early) =
     HoldsNone plan reached
-PlanRunHolds feed drain offers inlets dests files plan routers rounds reached None (Ran ended counts) = ⊥
-PlanRunHolds feed drain offers inlets dests files plan routers rounds reached (Some run) (Before early) =
+PlanRunHolds feed drain offers inlets dests files plan routers rounds reached None
+    (Ran ended counts) = ⊥
+PlanRunHolds feed drain offers inlets dests files plan routers rounds reached (Some run)
+    (Before early) =
     HoldsRun files plan reached run × StaysUnserved plan reached run
-PlanRunHolds feed drain offers inlets dests files plan routers rounds reached (Some run) (Ran ended counts) =
+PlanRunHolds feed drain offers inlets dests files plan routers rounds reached (Some run)
+    (Ran ended counts) =
     HoldsRun files plan reached run
     × IsServed feed drain offers inlets dests plan routers rounds reached run ended counts
 
@@ -224,7 +234,8 @@ HasEarlyCause old new plan reached (OpenFault (Store n)) = (n ≡ length reached
     × (reached.core ≡ None) × Rose old.store_faults new.store_faults
 HasEarlyCause old new plan reached (OpenFault (Inlet n)) = (n ≡ length reached.inlets)
     × Rose old.inlet_faults new.inlet_faults
-HasEarlyCause old new plan reached (OpenFault (Dest n)) = (n ≡ length reached.outlets) × OneRose old new
+HasEarlyCause old new plan reached (OpenFault (Dest n)) =
+    (n ≡ length reached.outlets) × OneRose old new
 HasEarlyCause old new plan reached (Damage s at) = (reached.core ≡ None)
     × IsDamagedIn plan.setup reached.stores s at
 HasEarlyCause old new plan reached (DiskFault s) = RoseAt reached.stores reached.stores_closed s
@@ -242,8 +253,10 @@ early_of CoreNoMemory = NoMemory
 
 -- The whole.
 
-pub record RunsWith {R I O : Type 0} (feed : I → InletState) (drain : O → OutletState) (offers : R → ℕ → Record → List Offer → Type 0) (inlets dests : R → ℕ)
-    (old new : WorldState) (plan : RunPlan) (routers : List R) (rounds : ℕ) (ending : PlanEnded) (reached : Reached) : Type 0 where
+pub record RunsWith {R I O : Type 0} (feed : I → InletState) (drain : O → OutletState)
+    (offers : R → ℕ → Record → List Offer → Type 0) (inlets dests : R → ℕ)
+    (old new : WorldState) (plan : RunPlan) (routers : List R) (rounds : ℕ) (ending : PlanEnded)
+    (reached : Reached) : Type 0 where
   pub devices : UsesDevices old new plan reached
   pub holds : PlanRunHolds feed drain offers inlets dests old.files plan routers rounds reached
       reached.core ending
@@ -258,8 +271,12 @@ RunsPlan feed drain offers inlets dests old new plan routers rounds ending = (re
 -- The parts.
 
 -- With the stores open: the core is opened, and then the inlets and outlets, from the second world state on; the stores come back as those.
-pub record RunsOver {R I O : Type 0} (feed : I → InletState) (drain : O → OutletState) (offers : R → ℕ → Record → List Offer → Type 0) (inlets dests : R → ℕ)
-    (old new : WorldState) (plan : RunPlan) (routers : List R) (rounds : ℕ) (stores stores_closed : List DiskState) (inlets_closed : List InletState) (outlets_closed : List OutletState) (openers : List (Option PathsState)) (ending : PlanEnded) : Type 0 where
+pub record RunsOver {R I O : Type 0} (feed : I → InletState) (drain : O → OutletState)
+    (offers : R → ℕ → Record → List Offer → Type 0) (inlets dests : R → ℕ)
+    (old new : WorldState) (plan : RunPlan) (routers : List R) (rounds : ℕ)
+    (stores stores_closed : List DiskState) (inlets_closed : List InletState)
+    (outlets_closed : List OutletState) (openers : List (Option PathsState))
+    (ending : PlanEnded) : Type 0 where
   pub inlets_opened : List InletState
   pub outlets_opened : List OutletState
   pub core : Option CoreRun
@@ -275,12 +292,16 @@ pub record RunsOver {R I O : Type 0} (feed : I → InletState) (drain : O → Ou
       outlets_opened outlets_closed openers core) ending
 
 -- The rounds were run over these destinations, those of the plan.
-pub record ServesDests {R I O : Type 0} (feed : I → InletState) (drain : O → OutletState) (offers : R → ℕ → Record → List Offer → Type 0) (inlets dests : R → ℕ)
-    (once : Bool) (plans : List OutletPlan) (rounds : ℕ) (begun last : CoreState) (sources : List (SourceActor R I)) (inlets_closed : List InletState) (opened closed : List OutletState) (ended : Ended) (counts : Option Counts) : Type 0 where
+pub record ServesDests {R I O : Type 0} (feed : I → InletState) (drain : O → OutletState)
+    (offers : R → ℕ → Record → List Offer → Type 0) (inlets dests : R → ℕ)
+    (once : Bool) (plans : List OutletPlan) (rounds : ℕ) (begun last : CoreState)
+    (sources : List (SourceActor R I)) (inlets_closed : List InletState)
+    (opened closed : List OutletState) (ended : Ended) (counts : Option Counts) : Type 0 where
   pub sources_then : List (SourceActor R I)
   pub dests_first : List (DestActor O)
   pub dests_then : List (DestActor O)
-  pub serves : ServesRounds (SourceTook feed offers inlets dests) (DestTook drain) CoreServes begun last
+  pub serves : ServesRounds (SourceTook feed offers inlets dests) (DestTook drain) CoreServes begun
+      last
       sources sources_then dests_first dests_then rounds ended
   pub counted : IfSome counts (AreCountsOf last sources_then dests_then)
   pub are_dests : AreDestsFor once plans
@@ -291,7 +312,9 @@ pub record ServesDests {R I O : Type 0} (feed : I → InletState) (drain : O →
   pub outlets_closed : map (λ (a : DestActor O). drain a.outlet) dests_then ≡ closed
 
 -- The rounds don't begin, and all stays.
-pub record MissesDests {R I : Type 0} (feed : I → InletState) (old new : WorldState) (begun last : CoreState) (sources : List (SourceActor R I)) (inlets_closed : List InletState) (opened closed : List OutletState) (early : Early) : Type 0 where
+pub record MissesDests {R I : Type 0} (feed : I → InletState) (old new : WorldState)
+    (begun last : CoreState) (sources : List (SourceActor R I)) (inlets_closed : List InletState)
+    (opened closed : List OutletState) (early : Early) : Type 0 where
   pub stays : last ≡ begun
   pub closes_inlets : inlets_closed ≡ map (λ (a : SourceActor R I). feed a.inlet) sources
   pub closes_outlets : closed ≡ opened
@@ -302,17 +325,21 @@ abbrev pub DestsEnd : {R I O : Type 0} → (I → InletState) → (O → OutletS
     → List OutletPlan → ℕ → CoreState → CoreState
     → List (SourceActor R I) → List InletState → List OutletState → List OutletState → PlanEnded
     → Type 0
-DestsEnd feed drain offers inlets dests old new once plans rounds begun last sources inlets_closed opened closed (Before early) =
+DestsEnd feed drain offers inlets dests old new once plans rounds begun last sources inlets_closed
+    opened closed (Before early) =
     MissesDests feed old new begun last sources inlets_closed opened closed early
-DestsEnd feed drain offers inlets dests old new once plans rounds begun last sources inlets_closed opened closed (Ran ended counts) =
+DestsEnd feed drain offers inlets dests old new once plans rounds begun last sources inlets_closed
+    opened closed (Ran ended counts) =
     ServesDests feed drain offers inlets dests once plans rounds begun last sources inlets_closed
     opened closed ended counts
 
 -- With the inlets open too: the outlets are opened, and the rounds run.
-pub record RunsDests {R I O : Type 0} (feed : I → InletState) (drain : O → OutletState) (offers : R → ℕ → Record → List Offer → Type 0) (inlets dests : R → ℕ)
+pub record RunsDests {R I O : Type 0} (feed : I → InletState) (drain : O → OutletState)
+    (offers : R → ℕ → Record → List Offer → Type 0) (inlets dests : R → ℕ)
     (old new : WorldState) (once : Bool) (plans : List OutletPlan) (rounds : ℕ) (begun : CoreState)
     (sources : List (SourceActor R I))
-    (stores_closed : List DiskState) (inlets_closed : List InletState) (outlets_closed : List OutletState) (ending : PlanEnded) : Type 0 where
+    (stores_closed : List DiskState) (inlets_closed : List InletState)
+    (outlets_closed : List OutletState) (ending : PlanEnded) : Type 0 where
   pub outlets_opened : List OutletState
   pub opens : OpensOutlets old new (outlets_asked once plans) outlets_opened
   pub last : CoreState

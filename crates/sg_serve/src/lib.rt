@@ -9,6 +9,7 @@ mod outlets;
 mod rewinds;
 mod run;
 mod sources;
+mod stats;
 mod stores;
 
 pub use counts::{Counts, Fault};

@@ -12,6 +12,7 @@ use crate::counts::count_all;
 use crate::held::{OpenDevices, close_all, hold_stores};
 use crate::outlets::open_dests;
 use crate::sources::open_sources;
+use crate::stats::Stats;
 use crate::stores::open_stores;
 use crate::{Early, Exit, PlanEnded};
 use sg_actor::SourceActor;
@@ -46,6 +47,7 @@ fn run_dests<T: Threads + Wait + Eprint + Sync, W: World, R: Router + Send + Dro
     outlets: Vec<OutletPlan>,
     once: bool,
     rounds: u64,
+    mut stats: Stats,
     world: &mut W,
 ) -> (
     OpenDevices<W::Store, R, W::Feed, Exit<W::Drain, W::Paths>>,
@@ -84,7 +86,7 @@ fn run_dests<T: Threads + Wait + Eprint + Sync, W: World, R: Router + Send + Dro
         core,
         sources,
         dests,
-    } = serve(rt, alloc, core, sources, dests, rounds);
+    } = serve(rt, alloc, core, sources, dests, rounds, &mut stats, world);
     let counts = count_all(alloc, &core, stores, &sources, &dests).ok();
     let held = OpenDevices {
         stores: core.into_stores(),
@@ -104,6 +106,7 @@ fn run_core<T: Threads + Wait + Eprint + Sync, W: World, R: Router + Send + Drop
     stores: Vec<W::Store>,
     routers: Vec<R>,
     rounds: u64,
+    freq: u32,
     world: &mut W,
 ) -> (
     OpenDevices<W::Store, R, W::Feed, Exit<W::Drain, W::Paths>>,
@@ -149,9 +152,12 @@ fn run_core<T: Threads + Wait + Eprint + Sync, W: World, R: Router + Send + Drop
     };
     let setups = setups.as_slice();
     match open_sources(alloc, &inlets, setups, once, routers, &mut core, world) {
-        Ok(sources) => run_dests(
-            rt, alloc, core, count, sources, outlets, once, rounds, world,
-        ),
+        Ok(sources) => {
+            let stats = Stats::new(alloc, freq, &inlets, &core.tally(alloc));
+            run_dests(
+                rt, alloc, core, count, sources, outlets, once, rounds, stats, world,
+            )
+        }
         Err((sources, feed, early)) => {
             let held = OpenDevices {
                 stores: core.into_stores(),
@@ -172,6 +178,7 @@ fn run_stores<T: Threads + Wait + Eprint + Sync, W: World, R: Router + Send + Dr
     plan: RunPlan,
     routers: Vec<R>,
     rounds: u64,
+    freq: u32,
     world: &mut W,
 ) -> (
     OpenDevices<W::Store, R, W::Feed, Exit<W::Drain, W::Paths>>,
@@ -191,20 +198,23 @@ fn run_stores<T: Threads + Wait + Eprint + Sync, W: World, R: Router + Send + Dr
         (W.state world.old) closed plan routers.items rounds result.1 }
 {
     match open_stores(alloc, &plan.stores, world) {
-        Ok(stores) => run_core(rt, alloc, plan, stores, routers, rounds, world),
+        Ok(stores) => run_core(rt, alloc, plan, stores, routers, rounds, freq, world),
         Err((stores, early)) => (hold_stores(alloc, stores), PlanEnded::Before(early)),
     }
 }
 
 /// Opens the devices of a plan, stores, inlets and outlets, each in its order, and the flow core over
 /// its stores; runs the rounds, so many at most, 1 to 2^36; and closes the devices, each kind in the order
-/// in which it was opened. There is a router for each inlet.
+/// in which it was opened. There is a router for each inlet. Every so many seconds what the sources and
+/// destinations have come to is told, and again before the devices are closed; where that is 0, once a minute of
+/// what drops and whose window stays full.
 pub fn run_plan<T: Threads + Wait + Eprint + Sync, W: World, R: Router + Send + Drop>(
     rt: &T,
     alloc: Global,
     plan: RunPlan,
     routers: Vec<R>,
     rounds: u64,
+    freq: u32,
     world: &mut W,
 ) -> PlanEnded
     requires some { 0 < rounds }
@@ -214,7 +224,7 @@ pub fn run_plan<T: Threads + Wait + Eprint + Sync, W: World, R: Router + Send + 
     ensures { RunsPlan W.Feed.state (exit_of W.Drain.state W.Paths.state) R.offers R.inlets R.dests
         (W.state world.old) (W.state world.new) plan routers.items rounds result }
 {
-    let (held, ending) = run_stores(rt, alloc, plan, routers, rounds, world);
+    let (held, ending) = run_stores(rt, alloc, plan, routers, rounds, freq, world);
     close_all(held, world);
     ending
 }

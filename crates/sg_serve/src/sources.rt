@@ -134,7 +134,8 @@ fn open_source<W: World, R: Router + Drop>(
     ensures refused { IfErr result (λ e. OpensAt (W.state world.old) (W.state world.new)
         (inlet_asked once plan.now.spec ∷ []) (λ _. position_at core.old i)
         (option_to_list (option_map W.Feed.state e.0))) }
-    ensures cause { IfErr result (λ e. SourceFailsToOpen (W.state world.old) (W.state world.new) core.old
+    ensures cause { IfErr result (λ e.
+        SourceFailsToOpen (W.state world.old) (W.state world.new) core.old
         core.new i setup.store (option_map W.Feed.state e.0) e.1) }
 {
     let Ok(spec) = asked(&plan.spec, once) else {

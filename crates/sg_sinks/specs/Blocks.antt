@@ -18,7 +18,8 @@ block_of (Some buffer) kept = if is_short_entry kept.message then Some (spelling
 
 -- the entry of an offer of the record of that inlet with that end
 abbrev pub kept_of_offer : ℕ → ℕ → Offer → Kept
-kept_of_offer inlet end offer = record { source = inlet; end = end; flow = offer.flow; message = offer.message }
+kept_of_offer inlet end offer =
+    record { source = inlet; end = end; flow = offer.flow; message = offer.message }
 
 abbrev pub block_of_offer : Option BufferSetup → ℕ → ℕ → Offer → Option (List ℕ)
 block_of_offer buffer inlet end offer = block_of buffer (kept_of_offer inlet end offer)

@@ -38,7 +38,8 @@ Judging dest failing failed offer =
     ≡ Some (failed_by dest.setup.buffer failed (fails && would_spool sink offer))
 
 -- what an offer with that verdict leaves
-pub record OfferLeaves (dest : Dest) (broken fails : Bool) (origin : Origin) (offer : Offer) : Type 0 where
+pub record OfferLeaves (dest : Dest) (broken fails : Bool) (origin : Origin)
+    (offer : Offer) : Type 0 where
   pub split : IsSplit (take_offer origin offer (verdict_of fails (sink_of broken dest) offer) dest)
   pub seen : sink_of (broken_then fails (sink_of broken dest) offer)
       (take_offer origin offer (verdict_of fails (sink_of broken dest) offer) dest)
@@ -61,7 +62,8 @@ pub record Moving (dest : Dest) (buffer : BufferSetup) (broken : Bool) : Type 0 
       ≡ moved_first (sink_of broken dest)
 
 -- a trial goes along with the offers, while the store works
-pub record Trying (buffer : BufferSetup) (sink : SinkState) (inlet number : ℕ) (offer : Offer) (block : Option (List ℕ)) : Type 0 where
+pub record Trying (buffer : BufferSetup) (sink : SinkState) (inlet number : ℕ) (offer : Offer)
+    (block : Option (List ℕ)) : Type 0 where
   pub takes : takes_in (encoded_len offer.message) (trial_of buffer sink) ≡ would_spool sink offer
   pub after :
       trial_of buffer (offered false inlet number offer block (verdict_of false sink offer) sink)

@@ -8,7 +8,11 @@ use Rattle.sg_sinks.specs.States.{SinkState}
 
 -- the first that waits, which is this
 abbrev pub moved_entry : SinkState → Entry → SinkState
-moved_entry sink e = record sink { lengths = sink.lengths ++ encoded_len e.message ∷ []; entries = drop 1 sink.entries; blocks = drop 1 sink.blocks }
+moved_entry sink e = record sink {
+  lengths = sink.lengths ++ encoded_len e.message ∷ [];
+  entries = drop 1 sink.entries;
+  blocks = drop 1 sink.blocks;
+}
 
 abbrev pub moved_first : SinkState → SinkState
 moved_first sink = option_map_or (moved_entry sink) (slice_get sink.entries 0) sink

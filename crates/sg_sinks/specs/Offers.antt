@@ -26,12 +26,14 @@ broken_then fails sink offer = sink.broken || (fails && would_spool sink offer)
 
 -- of a queue in memory: without flow-control there is room for so many
 abbrev pub queue_verdict : SinkState → Offer → Verdict
-queue_verdict sink offer = if offer.flow || nat_lt (unflowed_of sink.entries) sink.setup.fifo then Queued else DroppedFull
+queue_verdict sink offer = if offer.flow || nat_lt (unflowed_of sink.entries) sink.setup.fifo
+    then Queued else DroppedFull
 
 -- of a disk-buffer whose store works until the offer, which it would spool or not
 abbrev pub working_verdict : Bool → Bool → Bool → Verdict
 working_verdict spools fails flow =
-    if spools then (if fails then (if flow then Waits else DroppedDisk) else Spooled) else (if flow then Waits else DroppedFull)
+    if spools then (if fails then (if flow then Waits else DroppedDisk) else Spooled)
+    else (if flow then Waits else DroppedFull)
 
 -- of a disk-buffer, whose store is broken or works
 abbrev pub disk_verdict : Bool → SinkState → Offer → Verdict
@@ -51,22 +53,35 @@ verdict_of fails sink offer = verdict_by sink.setup.buffer fails sink offer
 -- its entry, which waits, of the record of that inlet and number
 abbrev pub entry_at : ℕ → ℕ → Offer → SinkState → Entry
 entry_at inlet number offer sink =
-    record { place = sink.taken + length sink.lengths + length sink.entries; inlet = inlet; number = number; flow = offer.flow; message = offer.message }
+    record {
+      place = sink.taken + length sink.lengths + length sink.entries;
+      inlet = inlet;
+      number = number;
+      flow = offer.flow;
+      message = offer.message;
+    }
 
 abbrev pub keeps : ℕ → ℕ → Offer → Option (List ℕ) → SinkState → SinkState
-keeps inlet number offer block sink = record sink { entries = sink.entries ++ entry_at inlet number offer sink ∷ []; blocks = sink.blocks ++ block ∷ [] }
+keeps inlet number offer block sink = record sink {
+  entries = sink.entries ++ entry_at inlet number offer sink ∷ [];
+  blocks = sink.blocks ++ block ∷ [];
+}
 
 -- what an offer leaves, by its verdict; the block is that of its entry
 abbrev pub takes : ℕ → ℕ → Offer → Option (List ℕ) → Verdict → SinkState → SinkState
 takes inlet number offer block Queued sink = keeps inlet number offer block sink
-takes inlet number offer block Spooled sink = record sink { lengths = sink.lengths ++ encoded_len offer.message ∷ [] }
+takes inlet number offer block Spooled sink =
+    record sink { lengths = sink.lengths ++ encoded_len offer.message ∷ [] }
 takes inlet number offer block Waits sink = keeps inlet number offer block sink
-takes inlet number offer block DroppedFull sink = record sink { dropped_full = sink.dropped_full + 1 }
-takes inlet number offer block DroppedDisk sink = record sink { dropped_disk = sink.dropped_disk + 1 }
+takes inlet number offer block DroppedFull sink =
+    record sink { dropped_full = sink.dropped_full + 1 }
+takes inlet number offer block DroppedDisk sink =
+    record sink { dropped_disk = sink.dropped_disk + 1 }
 
 -- the same with whether the store has failed
 abbrev pub offered : Bool → ℕ → ℕ → Offer → Option (List ℕ) → Verdict → SinkState → SinkState
-offered fails inlet number offer block verdict sink = record (takes inlet number offer block verdict sink) { broken = broken_then fails sink offer }
+offered fails inlet number offer block verdict sink =
+    record (takes inlet number offer block verdict sink) { broken = broken_then fails sink offer }
 
 -- how many offers it was given at most
 abbrev pub given : SinkState → ℕ

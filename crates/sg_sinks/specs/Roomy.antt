@@ -10,7 +10,8 @@ pub record Ring : Type 0 where
 
 -- there is memory for so many offers more, and for each entry that waits to go to the disk; and all that it was given, which it has
 -- taken, holds or has dropped, stays below 2^64 with them
-pub record IsRoomy (taken dropped : ℕ) (lengths : List ℕ) (behind : Ring) (used : ℕ) (queue : Waiting) (beside : Ring) (room : ℕ) : Type 0 where
+pub record IsRoomy (taken dropped : ℕ) (lengths : List ℕ) (behind : Ring) (used : ℕ)
+    (queue : Waiting) (beside : Ring) (room : ℕ) : Type 0 where
   pub bytes : used ≡ space lengths
   pub count : taken + length lengths + length queue.entries + dropped + room < 2 ^ 64
   pub spare : room ≤ queue.spare

@@ -21,15 +21,23 @@ lengths_of (e ∷ es) = if e.spooled then encoded_len e.message ∷ lengths_of e
 
 -- those that aren't spooled, each with its place among all that the destination was given
 abbrev pub waiting_at : ℕ → DestEntry → Waiting
-waiting_at place e = record { place = place; inlet = e.inlet; number = unwrap_or e.number 0; flow = e.flow; message = e.message }
+waiting_at place e = record {
+  place = place;
+  inlet = e.inlet;
+  number = unwrap_or e.number 0;
+  flow = e.flow;
+  message = e.message;
+}
 
 abbrev pub waiting_from : ℕ → List DestEntry → List Waiting
 waiting_from place [] = []
-waiting_from place (e ∷ es) = if e.spooled then waiting_from place es else waiting_at place e ∷ waiting_from (place + 1) es
+waiting_from place (e ∷ es) = if e.spooled then waiting_from place es
+    else waiting_at place e ∷ waiting_from (place + 1) es
 
 abbrev pub blocks_of : Option BufferSetup → List DestEntry → List (Option (List ℕ))
 blocks_of buffer [] = []
-blocks_of buffer (e ∷ es) = if e.spooled then blocks_of buffer es else block_of buffer (kept_of e) ∷ blocks_of buffer es
+blocks_of buffer (e ∷ es) = if e.spooled then blocks_of buffer es
+    else block_of buffer (kept_of e) ∷ blocks_of buffer es
 
 -- what the core keeps of it, where its store is broken or not
 abbrev pub sink_of : Bool → Dest → SinkState

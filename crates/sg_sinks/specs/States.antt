@@ -22,7 +22,16 @@ pub record Sunk : Type 0 where
 
 -- a destination of no entries
 abbrev pub fresh_sink : DestSetup → SinkState
-fresh_sink setup = record { setup = setup; taken = 0; lengths = []; entries = []; blocks = []; broken = false; dropped_full = 0; dropped_disk = 0 }
+fresh_sink setup = record {
+  setup = setup;
+  taken = 0;
+  lengths = [];
+  entries = [];
+  blocks = [];
+  broken = false;
+  dropped_full = 0;
+  dropped_disk = 0;
+}
 
 -- with one more entry on its disk, of this length
 abbrev pub recovered : ℕ → SinkState → SinkState

@@ -7,11 +7,19 @@ use Rattle.sg_sinks.specs.declared.trial.Trial.{Trial}
 
 -- with all that it has
 abbrev pub trial_of : BufferSetup → SinkState → Trial
-trial_of buffer sink = record { capacity = buffer.capacity; used = space sink.lengths; waits = not (length sink.entries == 0) }
+trial_of buffer sink = record {
+  capacity = buffer.capacity;
+  used = space sink.lengths;
+  waits = not (length sink.entries == 0);
+}
 
 -- so that those that wait may go to the disk
 abbrev pub refill_of : BufferSetup → SinkState → Trial
-refill_of buffer sink = record { capacity = buffer.capacity; used = space sink.lengths; waits = false }
+refill_of buffer sink = record {
+  capacity = buffer.capacity;
+  used = space sink.lengths;
+  waits = false;
+}
 
 -- none waits, and an entry of n bytes fits
 abbrev pub takes_in : ℕ → Trial → Bool
@@ -20,4 +28,5 @@ takes_in n trial = not trial.waits && has_space trial.capacity trial.used n
 -- then it is taken; else it waits where it has flow-control
 abbrev pub tried : Bool → ℕ → Trial → Trial
 tried flow n trial =
-    if takes_in n trial then record trial { used = trial.used + (5 + n) } else record trial { waits = trial.waits || flow }
+    if takes_in n trial then record trial { used = trial.used + (5 + n) }
+    else record trial { waits = trial.waits || flow }

@@ -67,7 +67,8 @@ window_by Network value slots = raised (number_or value window_size 1000 / slots
 window_by Syslog value slots = raised (number_or value window_size 1000 / slots)
 
 abbrev pub window_of : Call → ℕ
-window_of call = window_by (driver_kind call) (last_value (codes "log-iw-size" ∷ []) (options_of call)) (slots_of call)
+window_of call = window_by (driver_kind call)
+    (last_value (codes "log-iw-size" ∷ []) (options_of call)) (slots_of call)
 
 -- ---- how they are read
 
@@ -80,7 +81,9 @@ level_words = codes "default-level" ∷ codes "default-priority" ∷ []
 -- `kernel` stands for the facility kern where no facility and no severity is given, and else user is the default
 abbrev pub default_facility : Call → ℕ
 default_facility call =
-    if is_flagged (codes "kernel") call && (is_none (last_option facility_words (options_of call)) && is_none (last_option level_words (options_of call))) then 0 else 1
+    if is_flagged (codes "kernel") call
+    && (is_none (last_option facility_words (options_of call))
+    && is_none (last_option level_words (options_of call))) then 0 else 1
 
 -- notice is the default severity
 abbrev pub pri_of : Call → ℕ
@@ -95,7 +98,8 @@ is_syslog Syslog = true
 
 -- `syslog`, and others with the flag, read RFC 5424; with `no-parse` nothing is parsed
 abbrev pub reads_5424 : Call → Bool
-reads_5424 call = (is_syslog (driver_kind call) || is_flagged (codes "syslog-protocol") call) && not (is_flagged (codes "no-parse") call)
+reads_5424 call = (is_syslog (driver_kind call) || is_flagged (codes "syslog-protocol") call)
+    && not (is_flagged (codes "no-parse") call)
 
 abbrev pub texts_behind : Option Call → List (List ℕ)
 texts_behind None = []
@@ -106,22 +110,28 @@ tags_of call = texts_behind (last_option (codes "tags" ∷ []) (options_of call)
 
 -- two words for one option
 abbrev pub zone_of : Call → ℤ → ℤ
-zone_of call default = zone_or (last_value (codes "recv-time-zone" ∷ codes "time-zone" ∷ []) (options_of call)) default
+zone_of call default = zone_or
+    (last_value (codes "recv-time-zone" ∷ codes "time-zone" ∷ []) (options_of call)) default
 
 -- the readers' options
 pub record HasOpts (defaults : Defaults) (call : Call) (opts : ReadOpts) : Type 0 where
   pub pri : opts.pri ≡ pri_of call
   pub zone : opts.zone ≡ zone_of call defaults.received_zone
-  pub keep_hostname : opts.keep_hostname ≡ truth_or (last_value (codes "keep-hostname" ∷ []) (options_of call)) defaults.keep_hostname
-  pub keep_timestamp : opts.keep_timestamp ≡ truth_or (last_value (codes "keep-timestamp" ∷ []) (options_of call)) defaults.keep_timestamp
+  pub keep_hostname : opts.keep_hostname
+      ≡ truth_or (last_value (codes "keep-hostname" ∷ []) (options_of call)) defaults.keep_hostname
+  pub keep_timestamp : opts.keep_timestamp
+      ≡ truth_or (last_value (codes "keep-timestamp" ∷ []) (options_of call))
+      defaults.keep_timestamp
   pub parse : opts.parse ≡ not (is_flagged (codes "no-parse") call)
 
 -- what the options of a driver make, with these defaults
 pub record IsSourceDriver (defaults : Defaults) (call : Call) (source : SourceDriver) : Type 0 where
   pub place : source.place ≡ place_of call
   pub kind : source.kind ≡ frames_by (driver_kind call)
-  pub limit : source.limit ≡ number_or (last_value (codes "log-msg-size" ∷ []) (options_of call)) message_size defaults.message_size
-  pub fetch : source.fetch ≡ number_or (last_value (codes "log-fetch-limit" ∷ []) (options_of call)) fetch_limit 100
+  pub limit : source.limit ≡ number_or (last_value (codes "log-msg-size" ∷ []) (options_of call))
+      message_size defaults.message_size
+  pub fetch : source.fetch ≡ number_or (last_value (codes "log-fetch-limit" ∷ []) (options_of call))
+      fetch_limit 100
   pub window : source.window ≡ window_of call
   pub opts : HasOpts defaults call source.opts
   pub rfc5424 : source.rfc5424 ≡ reads_5424 call
@@ -138,7 +148,14 @@ spec_at (place.Listener ip port slots) limit slot = inlet.Slot ip port slot fals
 -- the inlet of a slot of the driver of this number, in the source of this name
 abbrev pub plan_of : SourceDriver → ℕ → ℕ → Option (List ℕ) → InletPlan
 plan_of source slot driver name =
-    record { spec = spec_at source.place source.limit slot; source = name; driver = driver; kind = source.kind; limit = source.limit; fetch = source.fetch }
+    record {
+      spec = spec_at source.place source.limit slot;
+      source = name;
+      driver = driver;
+      kind = source.kind;
+      limit = source.limit;
+      fetch = source.fetch;
+    }
 
 abbrev pub slots_at : SourceOrigin → ℕ
 slots_at (place.File path) = 1

@@ -13,13 +13,15 @@ IsFirstSize (Some size) [] = ⊥
 IsFirstSize (Some size) (payload ∷ payloads) = size ≡ length payload
 
 -- the bytes are the ring of at least so many entries, the first of which take so many bytes
-pub record HasRingEntries (cell : Pair) (places : Places) (n size : ℕ) (entries : Entries) (bytes : List ℕ) : Type 0 where
+pub record HasRingEntries (cell : Pair) (places : Places) (n size : ℕ) (entries : Entries)
+    (bytes : List ℕ) : Type 0 where
   pub ring : IsRing cell places entries bytes
   pub enough : n ≤ length entries
   pub sized : size ≡ space (take n entries)
 
 -- a ring stands at these places, but for the cell's value
-pub record IsRingReady (jump : Option ℕ) (head end : ℕ) (entries : Entries) (bytes : List ℕ) : Type 0 where
+pub record IsRingReady (jump : Option ℕ) (head end : ℕ) (entries : Entries)
+    (bytes : List ℕ) : Type 0 where
   pub size : 128 ≤ length bytes
   pub high : 64 ≤ head
   pub low : 64 ≤ end

@@ -53,7 +53,8 @@ Appends state old new payload Done = (old.closed ≡ false) × FitsBehind old pa
     × (new.closed ≡ false)
     × (live new.rows.list ≡ live old.rows.ahead + 5 + length payload)
     × (new.rows ≡ listed new.rows.list (min (old.rows.count + 1) (2 ^ 64 - 1)))
-    × ((list : Entries) → RingHolds state old list [] → RingHolds state new (list ++ payload ∷ []) [])
+    × ((list : Entries) → RingHolds state old list []
+    → RingHolds state new (list ++ payload ∷ []) [])
 Appends state old new payload NoRoom = RefusesPayload old new payload
 Appends state old new payload DiskFailed = Drops state old new payload
 
@@ -62,12 +63,15 @@ abbrev pub Commits : {D : Type 0} → (D → DiskState) → View D → View D �
     → Type 0
 Commits state old new (Ok done) = (old.closed ≡ false) × (new.closed ≡ false)
     × (new.rows ≡ committed old.rows)
-    × ((list staged : Entries) → RingHolds state old list staged → RingHolds state new (list ++ staged) [])
-Commits state old new (Err e) = HasDiskFailed old.closed (state old.disk).faults (state new.disk).faults
+    × ((list staged : Entries) → RingHolds state old list staged
+    → RingHolds state new (list ++ staged) [])
+Commits state old new (Err e) =
+    HasDiskFailed old.closed (state old.disk).faults (state new.disk).faults
     × (new.closed ≡ true) × (new.rows.staged ≡ 0)
 
 -- Ok: it was open, and the list is without its first entries. A fault: the disk failed, and it is closed.
-abbrev pub AdvancesSpool : {D : Type 0} → (D → DiskState) → View D → View D → ℕ → Result Unit DeviceFault
+abbrev pub AdvancesSpool : {D : Type 0} → (D → DiskState) → View D → View D → ℕ
+    → Result Unit DeviceFault
     → Type 0
 AdvancesSpool state old new n (Ok done) = (old.closed ≡ false) × (new.closed ≡ false)
     × (new.rows ≡ listed new.rows.list (old.rows.count - n)) × (new.front ≡ None)
@@ -131,7 +135,8 @@ IsGateBehind jump gate WalkedEmpty = Unit {0}
 IsGateBehind jump gate WalkedFailed = Unit {0}
 
 -- the entries that are left from the gate on, where a walk goes on
-pub record IsNextOf {D : Type 0} (old : View D) (gate : ℕ) (bytes : List ℕ) (entries : Entries) (walked : Walked) : Type 0 where
+pub record IsNextOf {D : Type 0} (old : View D) (gate : ℕ) (bytes : List ℕ) (entries : Entries)
+    (walked : Walked) : Type 0 where
   pub next : IsNextEntry old bytes entries walked
   pub behind : IsGateBehind old.rows.list.jump gate walked
 
@@ -147,7 +152,8 @@ HasReadCause before now DiskFault = Rose before now
 HasReadCause before now NoMemory = now ≡ before
 
 -- a refusal has its cause; the count of faults never falls, and stays where there is none
-pub record HasRefusalCause {T : Type 0} (before now : ℕ) (result : Result T RewriteRefusal) : Type 0 where
+pub record HasRefusalCause {T : Type 0} (before now : ℕ)
+    (result : Result T RewriteRefusal) : Type 0 where
   pub later : before ≤ now
   pub well : OnOk result (now ≡ before)
   pub failed : IfErr result (HasReadCause before now)

@@ -25,7 +25,8 @@ pub record SpoolLasts {D : Type 0} (state : D → DiskState) (old new : View D) 
 
 -- What a crash leaves: the list, or what the call makes of the list and of what is staged. Of a file that is within its bound
 -- each image is, and it stays so.
-pub record LeavesImages {D : Type 0} (state : D → DiskState) (old new : View D) (step : Entries → Entries → Entries) : Type 0 where
+pub record LeavesImages {D : Type 0} (state : D → DiskState) (old new : View D)
+    (step : Entries → Entries → Entries) : Type 0 where
   pub within : (list staged : Entries) → RingHolds state old list staged
       → Within (state old.disk) (state new.disk) (IsEitherList list (step list staged))
   pub short : IsCompact state old
@@ -46,11 +47,13 @@ pub record IsOpenedSpool {D : Type 0} (capacity : ℕ) (view : View D) : Type 0 
   pub unread : view.front ≡ None
 
 -- Ok: the cell is open. A fault has its cause.
-pub record LeavesOpen {T E : Type 0} (cell : Pair) (before now : ℕ) (result : Result T E) : Type 0 where
+pub record LeavesOpen {T E : Type 0} (cell : Pair) (before now : ℕ)
+    (result : Result T E) : Type 0 where
   pub cell_open : OnOk result (cell.closed ≡ false)
   pub cause : HasCause before now result
 
 -- the bytes that the list uses stay, and so do its places
-pub record SparesList {E : Type 0} (rows : Rows) (old new : DiskState) (result : Result Rows E) : Type 0 where
+pub record SparesList {E : Type 0} (rows : Rows) (old new : DiskState)
+    (result : Result Rows E) : Type 0 where
   pub images : Elapses (Spares rows.list.jump rows.list.head rows.list.end) old new
   pub list : IfOk result (λ next. next.list ≡ rows.list)

@@ -13,7 +13,8 @@ use Rattle.sg_stable.specs.declared.fault.StoreRefusal.TheVariants.{Damage, Disk
 -- the open cell of the ring that stands on this disk, its places and the number of its entries
 pub record FindsRing (disk : DiskState) (found : OpenedRing) : Type 0 where
   pub held : WhereTold (content disk)
-      (λ bytes. (entries : Entries) × IsRingHeld found.cell found.places found.count None entries bytes)
+      (λ bytes. (entries : Entries) × IsRingHeld found.cell found.places found.count None entries
+      bytes)
   pub ordered : IsOrdered found.places
   pub opened : found.cell.closed ≡ false
 
@@ -41,11 +42,13 @@ pub record IsDamagedWalk (head at : ℕ) (bytes : List ℕ) : Type 0 where
 -- the damage that comes after those bytes: too short a file, a head out of it, a bad gate
 abbrev pub IsDamagedBehind : ℕ → List ℕ → Type 0
 IsDamagedBehind at bytes = ((length bytes < 128) × (at ≡ length bytes))
-    ⊎ ((128 ≤ length bytes) × (((length bytes ≤ 64 + cell_value bytes) × (at ≡ min (64 + cell_value bytes) (2 ^ 64 - 1)))
+    ⊎ ((128 ≤ length bytes) × (((length bytes ≤ 64 + cell_value bytes)
+    × (at ≡ min (64 + cell_value bytes) (2 ^ 64 - 1)))
     ⊎ ((64 + cell_value bytes < length bytes) × IsDamagedWalk (64 + cell_value bytes) at bytes)))
 
 abbrev pub IsRingDamagedAt : ℕ → List ℕ → Type 0
-IsRingDamagedAt at bytes = IsFirstNonzero 64 at bytes ⊎ (AreZero 64 bytes × IsDamagedBehind at bytes)
+IsRingDamagedAt at bytes = IsFirstNonzero 64 at bytes
+    ⊎ (AreZero 64 bytes × IsDamagedBehind at bytes)
 
 -- damage where it is, a fault where the count of faults rose, and never lack of memory
 abbrev pub HasRingReason : DiskState → DiskState → StoreRefusal → Type 0

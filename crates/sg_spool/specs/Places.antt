@@ -6,7 +6,8 @@ use Rattle.sg_spool.specs.declared.places.Places.{Places}
 -- the order that they keep
 abbrev pub AreGatesOrdered : Option ℕ → ℕ → ℕ → Type 0
 AreGatesOrdered None head end = (64 ≤ head) × (head ≤ end) × (end < 2 ^ 63)
-AreGatesOrdered (Some jump) head end = (64 ≤ end) × (end < head) × (head ≤ jump) × (jump + 5 < 2 ^ 63)
+AreGatesOrdered (Some jump) head end =
+    (64 ≤ end) × (end < head) × (head ≤ jump) × (jump + 5 < 2 ^ 63)
 
 -- the bytes between the head and the end, over the jump
 abbrev pub bytes_between : Option ℕ → ℕ → ℕ → ℕ
@@ -59,7 +60,8 @@ pub record IsInOneRow (old new : Places) : Type 0 where
 -- the places once so many bytes of entries are off the front
 abbrev pub skipped : Option ℕ → ℕ → ℕ → ℕ → Places
 skipped None head end bytes = record { jump = None; head = head + bytes; end = end }
-skipped (Some jump) head end bytes = if nat_lt bytes (jump - head) then record { jump = Some jump; head = head + bytes; end = end }
+skipped (Some jump) head end bytes =
+    if nat_lt bytes (jump - head) then record { jump = Some jump; head = head + bytes; end = end }
     else record { jump = None; head = 64 + (bytes - (jump - head)); end = end }
 
 abbrev pub skip : Places → ℕ → Places

@@ -48,7 +48,8 @@ pub record AddsSpelled (at : ℕ) (payload : List ℕ) (last : Bool) (old new : 
       → HasPayload new at payload × IsShutAt last new (at + 5 + length payload)
 
 -- the entries of the list, spelled anew behind all that it uses
-pub record SpellsRing (meaning : List ℕ → List ℕ) (places : Places) (count end : ℕ) (old new : List ℕ) : Type 0 where
+pub record SpellsRing (meaning : List ℕ → List ℕ) (places : Places) (count end : ℕ)
+    (old new : List ℕ) : Type 0 where
   pub beyond : Beyond (past places) old new
   pub spelled : (entries : Entries) → IsLaid places.jump places.head places.end entries old
       → count ≡ length entries → Stand new (past places) (map meaning entries) end × IsEnd new end

@@ -79,7 +79,8 @@ IsEndBelow None head end = Unit {0}
 IsEndBelow (Some jump) head end = end < head
 
 -- the ring with this jump, head and end
-pub record IsLaid (jump : Option ℕ) (head end : ℕ) (entries : Entries) (bytes : List ℕ) : Type 0 where
+pub record IsLaid (jump : Option ℕ) (head end : ℕ) (entries : Entries)
+    (bytes : List ℕ) : Type 0 where
   pub buffer : IsBufferFile bytes head
   pub row : IsRow jump bytes head end entries
   pub ends : IsEnd bytes end

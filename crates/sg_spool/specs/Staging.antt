@@ -14,7 +14,8 @@ OpensTo cell end longer first last list (payload ∷ payloads) bytes =
     → RingAt cell longer first last (list ++ payload ∷ payloads) new
 
 -- the bytes are the ring of the list, with these payloads staged behind it
-pub record StagedAt (cell : Pair) (jump : Option ℕ) (head end : ℕ) (longer : Option ℕ) (first last : ℕ) (list staged : Entries) (bytes : List ℕ) : Type 0 where
+pub record StagedAt (cell : Pair) (jump : Option ℕ) (head end : ℕ) (longer : Option ℕ)
+    (first last : ℕ) (list staged : Entries) (bytes : List ℕ) : Type 0 where
   pub ring : RingAt cell jump head end list bytes
   pub opens : OpensTo cell end longer first last list staged bytes
 

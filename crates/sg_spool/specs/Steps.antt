@@ -5,7 +5,8 @@ use Rattle.sg_stable.specs.declared.cell.Pair.{Pair}
 use Rattle.sg_spool.specs.Ring.{Entries, IsLaid, IsList}
 
 -- the bytes are the ring with this cell and these places
-pub record RingAt (cell : Pair) (jump : Option ℕ) (head end : ℕ) (entries : Entries) (bytes : List ℕ) : Type 0 where
+pub record RingAt (cell : Pair) (jump : Option ℕ) (head end : ℕ) (entries : Entries)
+    (bytes : List ℕ) : Type 0 where
   pub laid : IsLaid jump head end entries bytes
   pub has_cell : HasCell cell.selector cell.value bytes
 

@@ -56,7 +56,8 @@ abbrev pub IsRing : Pair → Places → Entries → List ℕ → Type 0
 IsRing cell places entries bytes = RingAt cell places.jump places.head places.end entries bytes
 
 -- the images are the ring of this list, and these payloads are staged behind it
-pub record AreImagesHeld (disk : DiskState) (cell : Pair) (rows : Rows) (list staged : Entries) : Type 0 where
+pub record AreImagesHeld (disk : DiskState) (cell : Pair) (rows : Rows)
+    (list staged : Entries) : Type 0 where
   pub rings : EachNow disk (IsRing cell rows.list list)
   pub opens : WhereTold (content disk)
       (OpensTo cell rows.list.end rows.ahead.jump rows.ahead.head rows.ahead.end list staged)
@@ -75,13 +76,15 @@ IsFrontPayload (Some payload) [] = ⊥
 IsFrontPayload (Some payload) (first ∷ entries) = payload ≡ first
 
 -- the same, with the number of its entries and the first payload
-pub record IsRingHeld (cell : Pair) (places : Places) (count : ℕ) (front : Option (List ℕ)) (entries : Entries) (bytes : List ℕ) : Type 0 where
+pub record IsRingHeld (cell : Pair) (places : Places) (count : ℕ) (front : Option (List ℕ))
+    (entries : Entries) (bytes : List ℕ) : Type 0 where
   pub ring : IsRing cell places entries bytes
   pub number : count ≡ length entries
   pub first : IsFrontPayload front entries
 
 -- each image is the ring with one list, and the disk holds one list of what is staged
-pub record IsWholeRing (disk : DiskState) (cell : Pair) (rows : Rows) (front : Option (List ℕ)) : Type 0 where
+pub record IsWholeRing (disk : DiskState) (cell : Pair) (rows : Rows)
+    (front : Option (List ℕ)) : Type 0 where
   pub entries : Entries
   pub staged : Entries
   pub each : EachNow disk (IsRingHeld cell rows.list rows.count front entries)
@@ -90,7 +93,8 @@ pub record IsWholeRing (disk : DiskState) (cell : Pair) (rows : Rows) (front : O
   pub waits : rows.staged ≡ length staged
 
 -- what is true of every disk-buffer: its places are in order, and until a fault closes it each image is the ring
-pub record IsSoundSpool {D : Type 0} (state : D → DiskState) (cell : Pair) (view : View D) : Type 0 where
+pub record IsSoundSpool {D : Type 0} (state : D → DiskState) (cell : Pair)
+    (view : View D) : Type 0 where
   pub rows : AreRows view.rows
   pub unstaged : view.closed ≡ true → view.rows.staged ≡ 0
   pub cell_open : view.closed ≡ false → cell.closed ≡ false

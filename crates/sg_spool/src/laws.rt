@@ -11,7 +11,8 @@ pub fn bytes_have_one_meaning()
         → IsList others bytes → entries ≡ others }
     ensures whole { (entries : Entries) (at : ℕ) (bytes : List ℕ) → IsList entries bytes
         → IsRingDamagedAt at bytes → ⊥ }
-    ensures place { (at other : ℕ) (bytes : List ℕ) → IsRingDamagedAt at bytes → IsRingDamagedAt other bytes
+    ensures place { (at other : ℕ) (bytes : List ℕ) → IsRingDamagedAt at bytes
+        → IsRingDamagedAt other bytes
         → at ≡ other }
     ensures fresh { (capacity : ℕ) → IsCompactIn capacity (replicate 128 0) }
 {}

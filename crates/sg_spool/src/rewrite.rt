@@ -101,7 +101,8 @@ fn write_anew<D: Disk, M: Recode>(
     requires ordered { IsOrdered places }
     requires some { 1 ≤ count }
 
-    ensures spelled { IfOk result (λ end. Changes (SpellsRing (M.meaning recode.old) places count end)
+    ensures spelled { IfOk result (λ end.
+        Changes (SpellsRing (M.meaning recode.old) places count end)
         (content (D.state disk.old)) (content (D.state disk.new))) }
     ensures images { Elapses (Beyond (past places)) (D.state disk.old) (D.state disk.new) }
     ensures after { IfOk result (λ end. past places ≤ end) }
@@ -139,7 +140,8 @@ fn write_one<D: Disk, M: Recode>(
 ) -> Result<u64, RewriteRefusal>
     requires fits { IsPayload payload.now }
     requires small { at ≤ 2 ^ 63 }
-    ensures added { IfOk result (λ next. Changes (AddsSpelled at (M.meaning recode.old payload.now) last)
+    ensures added { IfOk result (λ next.
+        Changes (AddsSpelled at (M.meaning recode.old payload.now) last)
         (content (D.state disk.old)) (content (D.state disk.new))) }
     ensures images { Elapses (Beyond at) (D.state disk.old) (D.state disk.new) }
     ensures next { IfOk result (λ next. next ≡ at + 5 + length (M.meaning recode.old payload.now)) }
@@ -156,7 +158,8 @@ fn write_one<D: Disk, M: Recode>(
 // Writes a block with its gate open, and behind the last one a closed gate.
 fn write_block<D: Disk>(disk: &mut D, at: u64, block: &Block, last: bool) -> Result<(), DiskFault>
     requires { at ≤ 2 ^ 63 }
-    ensures added { OnOk result (Changes (AddsSpelled at block.now last) (content (D.state disk.old))
+    ensures added { OnOk result (Changes (AddsSpelled at block.now last)
+        (content (D.state disk.old))
         (content (D.state disk.new))) }
     ensures images { Elapses (Beyond at) (D.state disk.old) (D.state disk.new) }
     ensures inside { OnOk result (at + 5 + length block.now < 2 ^ 63) }

@@ -40,7 +40,8 @@ pub(crate) fn stage_block<D: Disk>(
     requires cell_open { cell.old.closed ≡ false }
     requires has_cell { EachNow (D.state disk.old) (HasCell cell.old.selector cell.old.value) }
 
-    ensures within { (list staged : Entries) → AreImagesHeld (D.state disk.old) cell.old rows list staged
+    ensures within { (list staged : Entries)
+        → AreImagesHeld (D.state disk.old) cell.old rows list staged
         → Within (D.state disk.old) (D.state disk.new) (IsEitherList list (list ++ staged)) }
 
     ensures staged { IfOk result (λ next. (list staged : Entries)
@@ -80,7 +81,8 @@ fn make_room<D: Disk>(
     requires cell_open { cell.old.closed ≡ false }
     requires has_cell { EachNow (D.state disk.old) (HasCell cell.old.selector cell.old.value) }
 
-    ensures within { (list staged : Entries) → AreImagesHeld (D.state disk.old) cell.old rows list staged
+    ensures within { (list staged : Entries)
+        → AreImagesHeld (D.state disk.old) cell.old rows list staged
         → Within (D.state disk.old) (D.state disk.new) (IsEitherList list (list ++ staged)) }
 
     ensures held { IfOk result (λ next. (list staged : Entries)
@@ -119,7 +121,8 @@ fn gather_rows<D: Disk>(
     requires cell_open { cell.old.closed ≡ false }
     requires has_cell { EachNow (D.state disk.old) (HasCell cell.old.selector cell.old.value) }
 
-    ensures within { (list staged : Entries) → AreImagesHeld (D.state disk.old) cell.old rows list staged
+    ensures within { (list staged : Entries)
+        → AreImagesHeld (D.state disk.old) cell.old rows list staged
         → Within (D.state disk.old) (D.state disk.new) (IsEitherList list (list ++ staged)) }
 
     ensures ring { IfOk result (λ next. (list staged : Entries)

@@ -165,7 +165,8 @@ impl<D: Disk> Spool<D> {
     pub fn append(&mut self, block: &Block) -> Appended
         requires { self.old.rows.staged ≡ 0 }
         ensures lasts { SpoolLasts D.state self.old self.new }
-        ensures leaves { LeavesImages D.state self.old self.new (λ list staged. list ++ block.now ∷ []) }
+        ensures leaves { LeavesImages D.state self.old self.new (λ list staged. list ++ block.now
+            ∷ []) }
         ensures answer { Appends D.state self.old self.new block.now result }
         ensures front { self.new.front ≡ self.old.front }
     {

@@ -1,5 +1,5 @@
 -- The walk over a store's entries.
-use Rattle.std.proofs.Common.{◌≡◌, ◌⊎◌, inl, inr, ℕ, ◌+◌, ◌-◌, ◌^◌, ◌≤◌, ◌<◌, false, List, [], ◌∷◌, ◌++◌, length, Option, Result, Ok, Err, Vec, IsErrAnd, Bool, true, refl, sym, ◌∙◌, ap, subst, arith, length-append}
+use Rattle.std.proofs.Common.{◌≡◌, ◌⊎◌, inl, inr, ℕ, ◌+◌, ◌-◌, ◌^◌, ◌≤◌, ◌<◌, false, List, [], ◌∷◌, ◌++◌, length, Option, Result, Ok, Err, Vec, Bool, true, refl, sym, ◌∙◌, ap, subst, arith, length-append}
 use Rattle.std.proofs.lemmas.List.{append-nil}
 use Rattle.std.specs.declared.alloc.Global.{Global}
 use Rattle.sg_device.specs.Disk.{DiskState, content, WhereTold, EachNow}
@@ -23,10 +23,6 @@ use Rattle.sg_spooled.specs.declared.unlisted.Unlisted.{Unlisted}
 use Rattle.sg_spooled.specs.declared.unlisted.Unlisted.TheVariants.{NotOpened, Damage, DiskFault, SayFault, NoMemory}
 use Rattle.sg_output.proofs.Sayings.{rose-later, says-none, only-says-none, only-says-then, some-then, some-more}
 use Rattle.sg_spooled.proofs.EntryLemmas.{stored-more, payloads-before, payloads-more, count-payloads, lines-more}
-
-pub err-is : {T E : Type 0} → (r : Result T E) (e : E) → IsErrAnd r (λ s. s ≡ e) → r ≡ Err e
-err-is (Ok x) e h = absurd h
-err-is (Err x) e h = ap Err h
 
 -- where a walk stands
 

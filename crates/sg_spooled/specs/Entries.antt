@@ -13,7 +13,8 @@ pub record SpooledRow : Type 0 where
 
 -- in a store an entry is spelled in format 2, or in format 1 with at most 2 ^ 30 bytes
 abbrev pub IsStoredEntry : Kept → List ℕ → Type 0
-IsStoredEntry kept payload = Spells2 kept payload ⊎ (Spells1 kept payload × (length payload ≤ 2 ^ 30))
+IsStoredEntry kept payload = Spells2 kept payload
+    ⊎ (Spells1 kept payload × (length payload ≤ 2 ^ 30))
 
 -- the payload is no entry
 abbrev pub IsNoEntry : List ℕ → Type 0

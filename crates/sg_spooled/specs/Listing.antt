@@ -26,9 +26,11 @@ abbrev pub spec_of : List ℕ → StoreSpec
 spec_of file = record { name = file; create = false; size = 0 }
 
 -- the ledger with that store opened and closed, where it was
-abbrev pub with_use : Ledger StoreSpec DiskState → List ℕ → Option StoreUse → Ledger StoreSpec DiskState
+abbrev pub with_use : Ledger StoreSpec DiskState → List ℕ → Option StoreUse
+    → Ledger StoreSpec DiskState
 with_use ledger file None = ledger
-with_use ledger file (Some store_use) = with_closed (with_opened ledger (spec_of file) store_use.opened)
+with_use ledger file (Some store_use) =
+    with_closed (with_opened ledger (spec_of file) store_use.opened)
     store_use.closed
 
 abbrev pub IfOpened : Option StoreUse → (StoreUse → Type 0) → Type 0
@@ -51,10 +53,12 @@ IsListingKept (Err refusal) opened closed = Rests opened closed
 
 -- what a store of bytes is damaged at, behind these entries: the bytes are no store, or a payload is no entry
 abbrev pub IsListDamaged : ℕ → List SpooledRow → List ℕ → Type 0
-IsListDamaged at rows bytes = ((rows ≡ []) × IsRingDamagedAt at bytes) ⊎ IsFirstBadEntry at rows bytes
+IsListDamaged at rows bytes = ((rows ≡ []) × IsRingDamagedAt at bytes)
+    ⊎ IsFirstBadEntry at rows bytes
 
 -- When each answer comes, behind these entries. Lack of memory is free.
-abbrev pub HasListingCause : WorldState → WorldState → Option StoreUse → List SpooledRow → Result Unit Unlisted
+abbrev pub HasListingCause : WorldState → WorldState → Option StoreUse → List SpooledRow
+    → Result Unit Unlisted
     → Type 0
 HasListingCause old new store_use rows (Ok done) = IsOpenedAnd store_use
     (λ s. WhereTold (content s.opened) (IsList (payloads_of rows)))
@@ -70,7 +74,8 @@ HasListingCause old new store_use rows (Err NoMemory) = Unit {0}
 -- what is said: a line for each of these entries, and how it ended
 abbrev pub SaysList : WorldState → WorldState → List SpooledRow → Result Unit Unlisted → Type 0
 SaysList old new rows (Ok done) = SaidText old new (row_lines 0 rows ++ entries_line (length rows))
-SaysList old new rows (Err NotOpened) = SaidText old new (row_lines 0 rows ++ unopened_line (codes "store") 0)
+SaysList old new rows (Err NotOpened) =
+    SaidText old new (row_lines 0 rows ++ unopened_line (codes "store") 0)
 SaysList old new rows (Err (Damage at)) = SaidText old new (row_lines 0 rows ++ damaged_line 0 at)
 SaysList old new rows (Err DiskFault) = SaidText old new (row_lines 0 rows ++ failed_line 0)
 SaysList old new rows (Err SayFault) = Unit {0}
@@ -106,23 +111,31 @@ unlisted_for StoreFault = DiskFault
 unlisted_for StoreNoMemory = NoMemory
 
 -- the part that has the store open, which comes back
-pub record ListsBy (old new : WorldState) (opened closed : DiskState) (result : Result Unit Unlisted) (rows : List SpooledRow) : Type 0 where
+pub record ListsBy (old new : WorldState) (opened closed : DiskState)
+    (result : Result Unit Unlisted) (rows : List SpooledRow) : Type 0 where
   pub says : OnlySays old new
   pub kept : IsListingKept result opened closed
   pub later : opened.faults ≤ closed.faults
   pub stored : AreRowsStored rows
-  pub cause : HasListingCause old new (Some (record { opened = opened; closed = closed })) rows result
+  pub cause : HasListingCause old new (Some (record { opened = opened; closed = closed })) rows
+      result
   pub said : SaysList old new rows result
 
 abbrev pub ListsStore : WorldState → WorldState → (opened closed : DiskState) → Result Unit Unlisted
     → Type 0
-ListsStore old new opened closed result = (rows : List SpooledRow) × ListsBy old new opened closed result rows
+ListsStore old new opened closed result =
+    (rows : List SpooledRow) × ListsBy old new opened closed result rows
 
 -- the store of FILE was listed up to these entries
-pub record SpoolsBy (old new : WorldState) (file : List ℕ) (result : Result Unit Unlisted) (store_use : Option StoreUse) (rows : List SpooledRow) : Type 0 where
+pub record SpoolsBy (old new : WorldState) (file : List ℕ) (result : Result Unit Unlisted)
+    (store_use : Option StoreUse) (rows : List SpooledRow) : Type 0 where
   -- nothing but that store was opened, and it was closed; no store was made, and no file changed
-  pub state : new ≡ record old
-      { stores = with_use old.stores file store_use; store_faults = new.store_faults; say_faults = new.say_faults; said = new.said }
+  pub state : new ≡ record old {
+    stores = with_use old.stores file store_use;
+    store_faults = new.store_faults;
+    say_faults = new.say_faults;
+    said = new.said;
+  }
   pub store_later : old.store_faults ≤ new.store_faults
   pub say_later : old.say_faults ≤ new.say_faults
   pub there : IfOpened store_use (λ s. IsStoreFileThere old.store_names file)
@@ -132,7 +145,8 @@ pub record SpoolsBy (old new : WorldState) (file : List ℕ) (result : Result Un
   pub cause : HasListingCause old new store_use rows result
   pub said : SaysList old new rows result
   -- a store of entries and no trouble give success, where memory is there
-  pub complete : ListsUntroubled old new store_use → IfOpened store_use (λ s. IsDiskSpelled s.opened)
+  pub complete : ListsUntroubled old new store_use
+      → IfOpened store_use (λ s. IsDiskSpelled s.opened)
       → WasListed result
 
 abbrev pub Spools : WorldState → WorldState → List ℕ → Result Unit Unlisted → Type 0

@@ -40,7 +40,8 @@ IsNoneHere list bytes gate = (entries : Entries) → Remains bytes list.jump gat
 abbrev pub ListsEntry : {D : Type 0} → (D → DiskState) → View D → View D → (gate number : ℕ)
     → (text text' : List ℕ) → Result ℕ Unlisted → Type 0
 ListsEntry state old new gate number text text' (Ok next) =
-    (row : SpooledRow) × (IsStoredEntry row.kept row.payload × ((text' ≡ text ++ row_line number row)
+    (row : SpooledRow) × (IsStoredEntry row.kept row.payload
+    × ((text' ≡ text ++ row_line number row)
     × ((new.closed ≡ false)
     × WhereTold (content (state old.disk)) (λ bytes. IsHere old.rows.list bytes gate row next))))
 ListsEntry state old new gate number text text' (Err (Damage at)) =
@@ -95,7 +96,9 @@ WalkEnds state old new world world' rows (Err NoMemory) = Unit {0}
 WalkEnds state old new world world' rows (Err NotOpened) = ⊥
 
 -- a walk over the entries of a disk-buffer: the lines of these were said, or are the text
-pub record WalksBy {D : Type 0} (state : D → DiskState) (old new : View D) (world world' : WorldState) (text : List ℕ) (result : Result ℕ Unlisted) (rows : List SpooledRow) : Type 0 where
+pub record WalksBy {D : Type 0} (state : D → DiskState) (old new : View D)
+    (world world' : WorldState) (text : List ℕ) (result : Result ℕ Unlisted)
+    (rows : List SpooledRow) : Type 0 where
   pub stored : AreRowsStored rows
   pub told : (state new.disk).told ≡ (state old.disk).told
   pub later : (state old.disk).faults ≤ (state new.disk).faults
@@ -122,7 +125,8 @@ answer_of (Ok count) = Ok tt
 answer_of (Err unlisted) = Err unlisted
 
 -- The text and the end were said, but where saying had failed before; or saying failed now, or memory ran out.
-pub record EndsListing (old new : WorldState) (text : List ℕ) (walked : Result ℕ Unlisted) (result : Result Unit Unlisted) : Type 0 where
+pub record EndsListing (old new : WorldState) (text : List ℕ) (walked : Result ℕ Unlisted)
+    (result : Result Unit Unlisted) : Type 0 where
   pub says : OnlySays old new
   pub ends : ((result ≡ answer_of walked)
       × UnlessUnsaid walked (SaidText old new (text ++ end_text walked)))

@@ -16,7 +16,8 @@ fn is_beyond(payload: &[u8]) -> bool
 // The entry that a payload in a store spells, where it is one.
 pub(crate) fn read_payload(alloc: Global, payload: &[u8]) -> Result<Option<Kept>, NoMemory>
     ensures { IfOk result
-        (λ read. MatchOption read (IsNoEntry payload.now) (λ kept. IsStoredEntry kept payload.now)) }
+        (λ read. MatchOption read (IsNoEntry payload.now)
+        (λ kept. IsStoredEntry kept payload.now)) }
 {
     if is_beyond(payload) {
         return Ok(None);

@@ -18,7 +18,8 @@ pub record StaysClosed {S T E : Type 0} (old new : S) (result : Result T E) : Ty
   pub untouched : new ≡ old
 
 -- What a crash leaves: within the call a store of the old position or of the new one, and after it of the new one.
-pub record LeavesEither {T E : Type 0} (old new : DiskState) (closed : Bool) (one other : ℕ) (result : Result T E) : Type 0 where
+pub record LeavesEither {T E : Type 0} (old new : DiskState) (closed : Bool) (one other : ℕ)
+    (result : Result T E) : Type 0 where
   pub within : closed ≡ false
       → Within old new (λ bytes. IsPosition one bytes ⊎ IsPosition other bytes)
   pub position : OnOk result (EachNow new (IsPosition other))

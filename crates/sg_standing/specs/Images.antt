@@ -22,9 +22,11 @@ positions_in sources images = map (λ (source : Source). position_in images sour
     sources
 
 -- these are the lists that the images of the disk-buffers stand for; of other destinations they may be any
-pub record AreListsIn (sinks : List SinkState) (images : List (List ℕ)) (lists : List (List BufferedEntry)) : Type 0 where
+pub record AreListsIn (sinks : List SinkState) (images : List (List ℕ))
+    (lists : List (List BufferedEntry)) : Type 0 where
   pub every : length lists ≡ length sinks
-  pub each : (d : ℕ) (sink : SinkState) (buffer : BufferSetup) (list : List BufferedEntry) (bytes : List ℕ)
+  pub each : (d : ℕ) (sink : SinkState) (buffer : BufferSetup) (list : List BufferedEntry)
+      (bytes : List ℕ)
       → slice_get sinks d ≡ Some sink → sink.setup.buffer ≡ Some buffer
       → slice_get lists d ≡ Some list → slice_get images buffer.store ≡ Some bytes
       → IsListOf (map coded list) bytes
@@ -36,7 +38,8 @@ AreImages stores images =
     → (bytes : List ℕ) × (slice_get images s ≡ Some bytes) × IsImage store.disk bytes
 
 -- one of the store of that number at some moment between these
-pub record HasImageBetween (store : StoreState) (from until : ℕ) (images : List (List ℕ)) (s : ℕ) : Type 0 where
+pub record HasImageBetween (store : StoreState) (from until : ℕ) (images : List (List ℕ))
+    (s : ℕ) : Type 0 where
   pub bytes : List ℕ
   pub chosen : slice_get images s ≡ Some bytes
   pub moment : ℕ

@@ -11,7 +11,8 @@ use Rattle.sg_standing.specs.declared.source.Source.{Source}
 
 -- the end of the last record of the longest acknowledged prefix, the opening place where that is empty
 abbrev pub mark_at : Source → ℕ
-mark_at source = if length source.tracker.waiting == source.tracker.begun then source.opening else source.tracker.mark
+mark_at source = if length source.tracker.waiting == source.tracker.begun then source.opening
+    else source.tracker.mark
 
 -- how many records may come in
 abbrev pub credit_of : Source → ℕ

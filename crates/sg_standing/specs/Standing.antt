@@ -68,18 +68,22 @@ IsStoredPosition stores failed (Some s) place = HoldsPosition (slice_get stores 
     (is_listed s failed)
 
 abbrev pub ArePositionsStored : List StoreState → List ℕ → List InletRecords → Type 0
-ArePositionsStored stores failed inlets = (i : ℕ) (inlet : InletRecords) → slice_get inlets i ≡ Some inlet
+ArePositionsStored stores failed inlets =
+    (i : ℕ) (inlet : InletRecords) → slice_get inlets i ≡ Some inlet
     → IsStoredPosition stores failed inlet.setup.store inlet.stored
 
 -- a disk-buffer, which has failed or works; while it works its places are those of the spooled entries that are left, and each image
 -- has these
-pub record IsBufferOf (store : StoreState) (buffer : BufferSetup) (dest : Dest) (broken : Bool) : Type 0 where
+pub record IsBufferOf (store : StoreState) (buffer : BufferSetup) (dest : Dest)
+    (broken : Bool) : Type 0 where
   pub failed_is : store.failed ≡ broken
-  pub sized : store.failed ≡ false → HasBufferSize buffer.capacity (lengths_of dest.left) store.buffer
+  pub sized : store.failed ≡ false
+      → HasBufferSize buffer.capacity (lengths_of dest.left) store.buffer
   pub works : store.failed ≡ false → HoldsEntries store (spooled_of dest.left) []
 
 -- the store of a destination's disk-buffer
-pub record IsBacked (stores : List StoreState) (failed : List ℕ) (buffer : BufferSetup) (dest : Dest) : Type 0 where
+pub record IsBacked (stores : List StoreState) (failed : List ℕ) (buffer : BufferSetup)
+    (dest : Dest) : Type 0 where
   pub store : StoreState
   pub there : slice_get stores buffer.store ≡ Some store
   pub is : IsBufferOf store buffer dest (is_listed buffer.store failed)
@@ -119,7 +123,8 @@ pub record IsSoundState (state : State) : Type 0 where
   pub spellable : (d : ℕ) (dest : Dest) → slice_get state.dests d ≡ Some dest
       → AreSpellable dest.setup.buffer dest.left
   -- before its first record the stored position of an inlet is its opening place
-  pub unmoved : (i : ℕ) (inlet : InletRecords) → slice_get state.inlets i ≡ Some inlet → inlet.ends ≡ []
+  pub unmoved : (i : ℕ) (inlet : InletRecords) → slice_get state.inlets i ≡ Some inlet
+      → inlet.ends ≡ []
       → inlet.stored ≡ inlet.opening
   pub apart : AreApart state
 
@@ -167,7 +172,8 @@ HavePositionsWithin olds news start events event =
     → Within old.disk new.disk (IsPositionOf (positions_within start events event i inlet))
 
 -- the bytes stand for a list that is safe within the act
-pub record IsSafeStore (dest : Dest) (d : ℕ) (act : Act) (failed : List ℕ) (tried : List BufferedEntry) (bytes : List ℕ) : Type 0 where
+pub record IsSafeStore (dest : Dest) (d : ℕ) (act : Act) (failed : List ℕ)
+    (tried : List BufferedEntry) (bytes : List ℕ) : Type 0 where
   pub list : List BufferedEntry
   pub entries : IsListOf (map coded list) bytes
   pub safe : IsSafeList dest d act failed tried list
@@ -218,7 +224,8 @@ ListsBetween stores from until start events event =
 
 -- A timetable of the events: one row more than events, a row a moment of each store. No moment falls from a row to the next, and
 -- the last row is now. Images between two rows are safe for the events before the first and the one between.
-pub record IsTimetable (stores : List StoreState) (start : State) (events : List Event) : Type 0 where
+pub record IsTimetable (stores : List StoreState) (start : State)
+    (events : List Event) : Type 0 where
   pub rows : ℕ → ℕ → ℕ
   pub ascend : (k s : ℕ) (store : StoreState) → slice_get stores s ≡ Some store → k < length events
       → rows k s ≤ rows (k + 1) s
@@ -243,7 +250,8 @@ pub record StandsFor (core : CoreState) (start : State) (events : List Event) : 
   pub moments : IsTimetable core.stores start events
 
 -- it stands for these events and more, by a timetable that keeps the rows of these
-pub record StandsOn (core : CoreState) (start : State) (events more : List Event) (rows : ℕ → ℕ → ℕ) : Type 0 where
+pub record StandsOn (core : CoreState) (start : State) (events more : List Event)
+    (rows : ℕ → ℕ → ℕ) : Type 0 where
   pub stands : StandsFor core start (events ++ more)
   pub keeps : KeepsRows (length events) rows stands.moments.rows
 
@@ -257,7 +265,8 @@ HaveRisen olds news failed =
     → Rose old.disk.faults new.disk.faults
 
 -- what a core that stands for the events before it needs to stand for one more
-pub record AddsEvent (old new : CoreState) (start : State) (events : List Event) (event : Event) : Type 0 where
+pub record AddsEvent (old new : CoreState) (start : State) (events : List Event)
+    (event : Event) : Type 0 where
   pub legal : is_legal_act (after_all start events) event.act event.failed ≡ true
   pub at : IsAt new (after_act (after_all start events) event.act event.failed)
   pub goes : AllGo old.stores new.stores

@@ -14,7 +14,10 @@ pub record CoreState : Type 0 where
 
 -- the setup of a core
 abbrev pub setup_of : CoreState → Setup
-setup_of core = record { sources = map (λ (source : Source). source.setup) core.sources; dests = map (λ (sink : SinkState). sink.setup) core.sinks }
+setup_of core = record {
+  sources = map (λ (source : Source). source.setup) core.sources;
+  dests = map (λ (sink : SinkState). sink.setup) core.sinks;
+}
 
 -- the number of calls alone rises
 abbrev pub counted : CoreState → CoreState

@@ -51,7 +51,8 @@ pub fn images_within_are_safe()
 pub fn images_between_are_safe()
     ensures { (setup : Setup) (opening : Opening) (events : List Event) (core : CoreState)
         (stands : StandsFor core (opened setup opening) events) (k : ℕ) (event : Event)
-        (images : List (List ℕ)) (lists : List (List BufferedEntry)) → slice_get events k ≡ Some event
+        (images : List (List ℕ)) (lists : List (List BufferedEntry))
+        → slice_get events k ≡ Some event
         → AreImagesBetween core.stores (stands.moments.rows k) (stands.moments.rows (k + 1)) images
         → AreListsIn core.sinks images lists → Safe (opened setup opening) (take k events) event
         (record { positions = positions_in core.sources images; lists = lists }) }

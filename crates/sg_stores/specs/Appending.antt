@@ -48,7 +48,8 @@ pub record IsAppended (start now : StoreState) (tried : List BufferedEntry) : Ty
       → HasBufferSize capacity (lengths ++ map length_of tried) now.buffer
 
 -- the payload spells this entry, which fits behind all that the call has tried before
-pub record IsNextPayload (start : StoreState) (tried : List BufferedEntry) (payload : List ℕ) (kept : BufferedEntry) : Type 0 where
+pub record IsNextPayload (start : StoreState) (tried : List BufferedEntry) (payload : List ℕ)
+    (kept : BufferedEntry) : Type 0 where
   pub spelled : payload ≡ spelling2 (coded kept)
   pub has_spelling : IsSpellable (coded kept)
   pub capacity : ℕ
@@ -72,7 +73,8 @@ pub record CommitsStore (old new : StoreState) : Type 0 where
       → IsAppended start new tried
 
 -- the same of the store of that number, and whether it works; the others stay as they are
-pub record StagesAt (olds news : List StoreState) (s : ℕ) (payload : List ℕ) (works : Bool) : Type 0 where
+pub record StagesAt (olds news : List StoreState) (s : ℕ) (payload : List ℕ)
+    (works : Bool) : Type 0 where
   pub old : StoreState
   pub new : StoreState
   pub was : slice_get olds s ≡ Some old

@@ -27,7 +27,8 @@ IsUnstaged None = Unit {0}
 IsUnstaged (Some buffer) = buffer.rows.staged ≡ 0
 
 -- a disk-buffer of this capacity, whose entries were found
-pub record IsLookedBuffer (disk : DiskState) (capacity : ℕ) (found : BufferEntries) (store : StoreState) : Type 0 where
+pub record IsLookedBuffer (disk : DiskState) (capacity : ℕ) (found : BufferEntries)
+    (store : StoreState) : Type 0 where
   pub position : store.position ≡ 0
   pub works : store.failed ≡ false
   pub preserves : Preserves disk store.disk
@@ -53,13 +54,15 @@ OpenReason kind old new DiskFault = Rose old.faults new.faults
 OpenReason kind old new NoMemory = Unit {0}
 
 -- no store of this kind was opened; no image is added
-pub record IsUnlooked (kind : StoreKind) (old new : DiskState) (refusal : StoreRefusal) : Type 0 where
+pub record IsUnlooked (kind : StoreKind) (old new : DiskState)
+    (refusal : StoreRefusal) : Type 0 where
   pub rests : Rests old new
   pub later : old.faults ≤ new.faults
   pub reason : OpenReason kind old new refusal
 
 -- a store that was looked through wasn't spelled anew; no image of another list is added
-pub record IsUnrenewed (kind : StoreKind) (old new : DiskState) (refusal : StoreRefusal) : Type 0 where
+pub record IsUnrenewed (kind : StoreKind) (old new : DiskState)
+    (refusal : StoreRefusal) : Type 0 where
   pub keeps : KeepsImages kind old new
   pub later : old.faults ≤ new.faults
   pub store : WhereTold (content old) (IsStore kind)
@@ -78,7 +81,8 @@ Renews old new found (Err refusal) = (kind : StoreKind) (disk : DiskState)
     → IsLookedAs kind disk found old → IsUnrenewed kind disk new.disk refusal
 
 -- the same of the store of that number; the others stay as they are
-pub record RenewsAt (olds news : List StoreState) (s : ℕ) (found : BufferEntries) (result : Result Unit StoreRefusal) : Type 0 where
+pub record RenewsAt (olds news : List StoreState) (s : ℕ) (found : BufferEntries)
+    (result : Result Unit StoreRefusal) : Type 0 where
   pub old : StoreState
   pub new : StoreState
   pub was : slice_get olds s ≡ Some old
@@ -90,15 +94,18 @@ CanRenewAll stores = (s : ℕ) (store : StoreState) → slice_get stores s ≡ S
     → CanRenew (Some store)
 
 -- of these stores so many are open, and the others were looked through
-pub record AreOpening (count : ℕ) (kinds : List StoreKind) (disks : List DiskState) (founds : List BufferEntries) (stores : List StoreState) : Type 0 where
+pub record AreOpening (count : ℕ) (kinds : List StoreKind) (disks : List DiskState)
+    (founds : List BufferEntries) (stores : List StoreState) : Type 0 where
   pub many : length stores ≡ length disks
   pub looked : length founds ≡ length disks
   pub known : length kinds ≡ length disks
-  pub opened : (s : ℕ) (kind : StoreKind) (disk : DiskState) (found : BufferEntries) (store : StoreState)
+  pub opened : (s : ℕ) (kind : StoreKind) (disk : DiskState) (found : BufferEntries)
+      (store : StoreState)
       → s < count → slice_get kinds s ≡ Some kind → slice_get disks s ≡ Some disk
       → slice_get founds s ≡ Some found → slice_get stores s ≡ Some store
       → IsOpenedAs kind disk found store
-  pub left : (s : ℕ) (kind : StoreKind) (disk : DiskState) (found : BufferEntries) (store : StoreState)
+  pub left : (s : ℕ) (kind : StoreKind) (disk : DiskState) (found : BufferEntries)
+      (store : StoreState)
       → count ≤ s → slice_get kinds s ≡ Some kind → slice_get disks s ≡ Some disk
       → slice_get founds s ≡ Some found → slice_get stores s ≡ Some store
       → IsLookedAs kind disk found store

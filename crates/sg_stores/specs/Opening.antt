@@ -50,7 +50,8 @@ pub record IsOpenedPosition (disk : DiskState) (store : StoreState) : Type 0 whe
   pub well : store.disk.faults ≡ disk.faults
 
 -- a disk-buffer: it has the entries that stood on this disk, all of them in format 2; no fault was counted
-pub record IsRecovered (disk : DiskState) (capacity : ℕ) (found : BufferEntries) (store : StoreState) : Type 0 where
+pub record IsRecovered (disk : DiskState) (capacity : ℕ) (found : BufferEntries)
+    (store : StoreState) : Type 0 where
   pub entries : List BufferedEntry
   pub position : store.position ≡ 0
   pub works : store.failed ≡ false
@@ -83,10 +84,12 @@ AllFailByFaults disks stores =
     → slice_get stores s ≡ Some store → FailsByFaults store.failed disk store.disk
 
 -- the stores of these kinds were opened on these disks
-pub record AreOpened (kinds : List StoreKind) (disks : List DiskState) (founds : List BufferEntries) (stores : List StoreState) : Type 0 where
+pub record AreOpened (kinds : List StoreKind) (disks : List DiskState) (founds : List BufferEntries)
+    (stores : List StoreState) : Type 0 where
   pub count : length stores ≡ length disks
   pub looked : length founds ≡ length disks
-  pub each : (s : ℕ) (kind : StoreKind) (disk : DiskState) (found : BufferEntries) (store : StoreState)
+  pub each : (s : ℕ) (kind : StoreKind) (disk : DiskState) (found : BufferEntries)
+      (store : StoreState)
       → slice_get kinds s ≡ Some kind → slice_get disks s ≡ Some disk
       → slice_get founds s ≡ Some found → slice_get stores s ≡ Some store
       → IsOpenedAs kind disk found store
@@ -127,7 +130,8 @@ AreStoresBefore count kinds disks =
     → slice_get disks s ≡ Some disk → WhereTold (content disk) (IsStore kind)
 
 -- the lowest damaged store: this one, at this place
-pub record IsLowestDamaged (kinds : List StoreKind) (disks : List DiskState) (s at : ℕ) : Type 0 where
+pub record IsLowestDamaged (kinds : List StoreKind) (disks : List DiskState)
+    (s at : ℕ) : Type 0 where
   pub kind : StoreKind
   pub disk : DiskState
   pub is_kind : slice_get kinds s ≡ Some kind
@@ -145,13 +149,15 @@ pub record HasFaulted (kinds : List StoreKind) (olds news : List DiskState) (s :
   pub before : AreStoresBefore s kinds olds
 
 -- lack of memory is free
-abbrev pub HasOpeningReason : List StoreKind → List DiskState → List DiskState → CoreRefusal → Type 0
+abbrev pub HasOpeningReason : List StoreKind → List DiskState → List DiskState → CoreRefusal
+    → Type 0
 HasOpeningReason kinds olds news (Damage s at) = IsLowestDamaged kinds olds s at
 HasOpeningReason kinds olds news (DiskFault s) = HasFaulted kinds olds news s
 HasOpeningReason kinds olds news NoMemory = Unit {0}
 
 -- why they weren't opened
-pub record AreStoresRefused (kinds : List StoreKind) (olds news : List DiskState) (refusal : CoreRefusal) : Type 0 where
+pub record AreStoresRefused (kinds : List StoreKind) (olds news : List DiskState)
+    (refusal : CoreRefusal) : Type 0 where
   pub preserved : ArePreserved kinds olds news
   pub reason : HasOpeningReason kinds olds news refusal
 

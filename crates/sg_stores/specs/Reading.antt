@@ -30,7 +30,8 @@ pub record StoreStays (old new : StoreState) : Type 0 where
 
 -- Ok: so many messages; where the disk tells its bytes they are those of the first entries. DiskFault: the store fails now.
 -- Lack of memory is free.
-abbrev pub ReadsMessages : StoreState → StoreState → ℕ → Result (List Content) RewriteRefusal → Type 0
+abbrev pub ReadsMessages : StoreState → StoreState → ℕ → Result (List Content) RewriteRefusal
+    → Type 0
 ReadsMessages old new n (Ok messages) = (new.failed ≡ false) × (length messages ≡ n)
     × WhereTold (content old.disk) (λ bytes. (list : List BufferedEntry) → HoldsEntries old list []
     → messages ≡ map (λ (kept : BufferedEntry). kept.message) (take n list))
@@ -38,7 +39,8 @@ ReadsMessages old new n (Err DiskFault) = (new.failed ≡ true) × Rose old.disk
 ReadsMessages old new n (Err NoMemory) = new.failed ≡ false
 
 -- the same of the store of that number; the others stay as they are
-pub record ReadsAt (olds news : List StoreState) (s n : ℕ) (result : Result (List Content) RewriteRefusal) : Type 0 where
+pub record ReadsAt (olds news : List StoreState) (s n : ℕ)
+    (result : Result (List Content) RewriteRefusal) : Type 0 where
   pub old : StoreState
   pub new : StoreState
   pub was : slice_get olds s ≡ Some old

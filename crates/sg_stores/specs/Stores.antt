@@ -40,13 +40,19 @@ pub record IsBufferStore (store : StoreState) : Type 0 where
 
 -- the entry as it is spelled, and its length
 abbrev pub coded : BufferedEntry → Coded
-coded kept = record { source = kept.inlet; end = kept.end; flow = kept.flow; message = kept.message }
+coded kept = record {
+  source = kept.inlet;
+  end = kept.end;
+  flow = kept.flow;
+  message = kept.message;
+}
 
 abbrev pub length_of : BufferedEntry → ℕ
 length_of kept = encoded_len kept.message
 
 -- each image has these entries, and those are staged behind them
-abbrev pub HoldsIn : Option BufferState → DiskState → List BufferedEntry → List BufferedEntry → Type 0
+abbrev pub HoldsIn : Option BufferState → DiskState → List BufferedEntry → List BufferedEntry
+    → Type 0
 HoldsIn None disk list staged = ⊥
 HoldsIn (Some buffer) disk list staged = HoldsAt disk buffer.rows (spelled (map coded list))
     (spelled (map coded staged))

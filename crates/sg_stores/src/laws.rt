@@ -16,7 +16,8 @@ pub fn appending_begins()
 /// moment: while it works the count of faults stands as it did before the opening, and where it has failed
 /// the count has risen.
 pub fn stores_fail_by_faults()
-    ensures one { (kind : StoreKind) (disk : DiskState) (found : BufferEntries) (first now : StoreState)
+    ensures one { (kind : StoreKind) (disk : DiskState) (found : BufferEntries)
+        (first now : StoreState)
         → IsOpenedAs kind disk found first → StoreGoesOn first now
         → FailsByFaults now.failed disk now.disk }
     ensures all { (kinds : List StoreKind) (disks : List DiskState) (founds : List BufferEntries)

@@ -137,7 +137,8 @@ impl<D: Disk> Stores<D> {
         ensures opened { IfOk result
             (λ opened. AreOpened kinds.now (map D.state disks.items) opened.found opened.stores) }
         ensures refused { IfErr result
-            (λ e. AreStoresRefused kinds.now (map D.state disks.items) (map D.state e.0.items) e.1) }
+            (λ e. AreStoresRefused kinds.now (map D.state disks.items) (map D.state e.0.items)
+            e.1) }
     {
         let (mut stores, found) = look_all(alloc, disks, kinds)?;
         match renew_all(alloc, &mut stores, &found) {

@@ -37,7 +37,8 @@ pub record MadePipe (old new : List Pipe) (pipe : Pipe) (steps : Steps) : Type 0
 abbrev pub own : List Expr → Path → Marks × Steps
 own named path = (path_marks path, own_steps named path)
 
-pub record CompiledBranches (old new : List Pipe) (branches : List Branch) (siblings : List (Marks × Steps)) : Type 0 where
+pub record CompiledBranches (old new : List Pipe) (branches : List Branch)
+    (siblings : List (Marks × Steps)) : Type 0 where
   pub grows : PipesGrow old new
   pub within : AllByRecursion (λ branch. branch.start < length new) branches
   pub means : branches_at (steps_at new) branches ≡ siblings
@@ -46,7 +47,8 @@ pub record CompiledBranches (old new : List Pipe) (branches : List Branch) (sibl
 abbrev pub choices : List Expr → List (Expr × Vec Element Global) → List (Decision × Steps)
 choices named = map (λ branch. (decision_of named branch.0, steps_view named branch.1.items []))
 
-pub record CompiledTests (old new : List Pipe) (tests : List Test) (choice : List (Decision × Steps)) : Type 0 where
+pub record CompiledTests (old new : List Pipe) (tests : List Test)
+    (choice : List (Decision × Steps)) : Type 0 where
   pub grows : PipesGrow old new
   pub within : AllByRecursion (λ test. test.start < length new) tests
   pub means : tests_at (steps_at new) tests ≡ choice
@@ -55,7 +57,8 @@ abbrev pub other_steps : List Expr → Option (Vec Element Global) → Steps
 other_steps named (Some elements) = steps_view named elements.items []
 other_steps named None = none_left
 
-pub record CompiledOther (named : List Expr) (old new : List Pipe) (start : Option ℕ) (other : Option (Vec Element Global)) : Type 0 where
+pub record CompiledOther (named : List Expr) (old new : List Pipe) (start : Option ℕ)
+    (other : Option (Vec Element Global)) : Type 0 where
   pub grows : PipesGrow old new
   pub within : IsOtherBelow (length new) start
   pub means : other_at (steps_at new) start ≡ other_steps named other
@@ -66,7 +69,8 @@ pub record IsTopOf (path : Path) (top : Top) : Type 0 where
   pub catchall : top.catchall ≡ (out-Path path).catchall
   pub marks : branch_marks top.branch ≡ path_marks path
 
-pub record CompiledTops (old new : List Pipe) (tops : List Top) (statements : List Statement) : Type 0 where
+pub record CompiledTops (old new : List Pipe) (tops : List Top)
+    (statements : List Statement) : Type 0 where
   pub grows : PipesGrow old new
   pub within : AllByRecursion (λ top. top.branch.start < length new) tops
   pub means : map (statement_at (steps_at new)) tops ≡ statements

@@ -7,7 +7,12 @@ use Rattle.sg_table.specs.declared.table.Table.{Table}
 use Rattle.sg_table.specs.Table.{StepsByPlace, marks, steps_at}
 
 abbrev pub statement_at : StepsByPlace → Top → Statement
-statement_at at top = record { sources = top.sources.items; catchall = top.catchall; marks = marks top.branch; steps = at top.branch.start }
+statement_at at top = record {
+  sources = top.sources.items;
+  catchall = top.catchall;
+  marks = marks top.branch;
+  steps = at top.branch.start;
+}
 
 abbrev pub forest_of : Table → Woods
 forest_of table = record {

@@ -3,7 +3,7 @@ use Rattle.std.specs.Prelude.{◌≡◌, ℕ, List, [], ◌∷◌, ◌++◌, map
 use Rattle.sg_filter.specs.Patterns.{joined, patterns_within}
 use Rattle.sg_filter.specs.declared.expr.Expr.{Expr}
 use Rattle.sg_table.specs.Patterns.{PatternTexts, rules_patterns, list_patterns, choices_patterns, siblings_patterns}
-use Rattle.sg_table.specs.declared.listing.Listing.{Listing}
+use Rattle.sg_table.specs.declared.listing.PatternListing.{PatternListing}
 use Rattle.sg_table.specs.declared.listing.ListingTask.{ListingTask}
 use Rattle.sg_table.specs.declared.listing.ListingTask.TheVariants as waiting
 
@@ -11,7 +11,8 @@ module _ (named : List Expr) where
   abbrev pub waiting_patterns : ListingTask → PatternTexts
   waiting_patterns (waiting.Pattern pattern) = pattern.now ∷ []
   waiting_patterns (waiting.One expr depth) = patterns_within depth named expr.now
-  waiting_patterns (waiting.Several exprs depth) = joined (map (patterns_within depth named) exprs.now)
+  waiting_patterns (waiting.Several exprs depth) =
+      joined (map (patterns_within depth named) exprs.now)
   waiting_patterns (waiting.Rules rules) = rules_patterns named rules.now
   waiting_patterns (waiting.Elements elements) = list_patterns named elements.now
   waiting_patterns (waiting.Branches branches) = choices_patterns named branches.now
@@ -22,21 +23,22 @@ module _ (named : List Expr) where
   stacked [] = []
   stacked (one ∷ more) = stacked more ++ waiting_patterns one
 
-abbrev pub listed_patterns : Listing → PatternTexts
+abbrev pub listed_patterns : PatternListing → PatternTexts
 listed_patterns listing = map (λ pattern. pattern.now) listing.found.items
 
 -- those that were listed, and those of what waits
-abbrev pub all_patterns : List Expr → Listing → PatternTexts
+abbrev pub all_patterns : List Expr → PatternListing → PatternTexts
 all_patterns named listing = listed_patterns listing ++ stacked named listing.waiting.items
 
 -- these patterns wait in front of what waited
-pub record PushesPatterns (named : List Expr) (patterns : PatternTexts) (old new : Listing) : Type 0 where
+pub record PushesPatterns (named : List Expr) (patterns : PatternTexts)
+    (old new : PatternListing) : Type 0 where
   pub more : List ListingTask
   pub is : new.waiting.items ≡ old.waiting.items ++ more
   pub same : new.found ≡ old.found
   pub means : stacked named more ≡ patterns
 
 -- and are listed, or wait, in front of what waited
-abbrev pub ListsPatterns : List Expr → PatternTexts → Listing → Listing → Type 0
+abbrev pub ListsPatterns : List Expr → PatternTexts → PatternListing → PatternListing → Type 0
 ListsPatterns named patterns old new = all_patterns named new
     ≡ listed_patterns old ++ (patterns ++ stacked named old.waiting.items)

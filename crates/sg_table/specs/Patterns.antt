@@ -58,7 +58,8 @@ element_patterns named = fold-Element PatternTexts PatternTexts (element_pattern
     path_patterns_step
 
 abbrev pub path_patterns : List Expr → Path → PatternTexts
-path_patterns named = fold-Path PatternTexts PatternTexts (element_patterns_step named) path_patterns_step
+path_patterns named = fold-Path PatternTexts PatternTexts (element_patterns_step named)
+    path_patterns_step
 
 -- the patterns of lists of them
 abbrev pub filters_patterns : List Expr → List Expr → PatternTexts
@@ -102,6 +103,7 @@ RefusesPatterns old new patterns (TooManyOffers line) = ⊥
 RefusesPatterns old new patterns NoMemory = Unit {0}
 
 -- each of these was made and none was refused for its size, or one was refused
-abbrev pub MakesPatterns : {A : Type 0} → WorldState → WorldState → PatternTexts → Result A PathRefusal → Type 0
+abbrev pub MakesPatterns : {A : Type 0} → WorldState → WorldState → PatternTexts
+    → Result A PathRefusal → Type 0
 MakesPatterns old new patterns (Ok made) = AreValid patterns × RefusesNone old new
 MakesPatterns old new patterns (Err why) = RefusesPatterns old new patterns why

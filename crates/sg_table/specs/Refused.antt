@@ -47,7 +47,8 @@ pub record IsFirstBadPattern (patterns : PatternTexts) (line : Line) : Type 0 wh
 
 -- Each is a pattern. In the order of the text those in front of that line were made one after another, from the state before the call
 -- on, and no count rose; then the builder refused the pattern of that line, and its count rose.
-pub record IsFirstLarge (patterns : PatternTexts) (line : Line) (old new : WorldState) : Type 0 where
+pub record IsFirstLarge (patterns : PatternTexts) (line : Line)
+    (old new : WorldState) : Type 0 where
   pub valid : AreValid patterns
   pub order : PatternTexts
   pub sorted : IsTextOrder patterns order

@@ -11,7 +11,12 @@ use Rattle.sg_table.specs.declared.pipe.Pipe.TheVariants as pipe
 use Rattle.sg_tree.specs.Walk.{Marks, Steps, Siblings, Choice, none_left, filter, rewrite, parse, deliver, junction, choose, embedded, no_siblings, sibling, otherwise, test}
 
 abbrev pub marks : Branch → Marks
-marks branch = record { is_final = branch.is_final; fallback = branch.fallback; flow = branch.flow; drop_unmatched = branch.drop_unmatched }
+marks branch = record {
+  is_final = branch.is_final;
+  fallback = branch.fallback;
+  flow = branch.flow;
+  drop_unmatched = branch.drop_unmatched;
+}
 
 -- what stands at each place
 abbrev pub StepsByPlace : Type 0
@@ -107,7 +112,8 @@ IsPipeBelow-prop n (pipe.Embedded logs) = AllByRecursion-prop (λ branch. branch
 
 ArePipesBelow-prop : (n : ℕ) (pipes : List Pipe) → IsProp (ArePipesBelow n pipes)
 ArePipesBelow-prop n [] = Unit-prop
-ArePipesBelow-prop n (one ∷ more) = ×_prop (IsPipeBelow-prop n one) (ArePipesBelow-prop (suc n) more)
+ArePipesBelow-prop n (one ∷ more) =
+    ×_prop (IsPipeBelow-prop n one) (ArePipesBelow-prop (suc n) more)
 
 pub IsPipeTable-prop : (pipes : List Pipe) → IsProp (IsPipeTable pipes)
 unfolding IsPipeTable

@@ -30,7 +30,8 @@ MakesEach {S} step old (one ∷ more) new = (mid : S) × (MakesOne step old one 
     × (MakesEach step mid more new)
 
 -- Of these, tried one after another, those in front were made; then the builder refused that of the line for its size.
-pub record IsRefusedIn {S : Type 0} (state : S → WorldState) (step : BuilderCalls S) (order : PatternTexts) (line : Line) (old new : S) : Type 0 where
+pub record IsRefusedIn {S : Type 0} (state : S → WorldState) (step : BuilderCalls S)
+    (order : PatternTexts) (line : Line) (old new : S) : Type 0 where
   pub front : PatternTexts
   pub one : PatternText
   pub behind : PatternTexts

@@ -26,7 +26,7 @@ pub(crate) enum ListingTask<'f> {
 }
 
 #[derive(Drop)]
-pub(crate) struct Listing<'f> {
+pub(crate) struct PatternListing<'f> {
     pub(crate) found: Vec<&'f PatternText>,
     /// What is still to be listed, the first last.
     pub(crate) waiting: Vec<ListingTask<'f>>,
@@ -43,7 +43,7 @@ fn first_of<T>(items: &[T]) -> Option<(&T, &[T])>
     }
 }
 
-impl<'f> Listing<'f> {
+impl<'f> PatternListing<'f> {
     fn push(&mut self, one: ListingTask<'f>) -> Result<(), AllocError>
         ensures { OnOk result ((self.new.waiting.items ≡ self.old.waiting.items ++ one.entry ∷ [])
             × (self.new.found ≡ self.old.found)) }
@@ -361,11 +361,11 @@ impl<'f> Listing<'f> {
     }
 }
 
-fn begun<'f>(alloc: Global, forest: &'f Forest) -> Result<Listing<'f>, AllocError>
+fn begun<'f>(alloc: Global, forest: &'f Forest) -> Result<PatternListing<'f>, AllocError>
     ensures { IfOk result (λ listing.
         all_patterns forest.now.filters.items listing ≡ patterns_in forest.now) }
 {
-    let mut listing = Listing {
+    let mut listing = PatternListing {
         found: Vec::new(alloc),
         waiting: Vec::new(alloc),
     };

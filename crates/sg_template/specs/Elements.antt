@@ -19,7 +19,8 @@ pub record SdItem : Type 0 where
 
 -- 1 to 32 bytes of a name
 abbrev pub is_sd_name : List ℕ → Bool
-is_sd_name bytes = if length bytes == 0 then false else (if nat_lt 32 (length bytes) then false else list_all is_sd_byte bytes)
+is_sd_name bytes = if length bytes == 0 then false
+    else (if nat_lt 32 (length bytes) then false else list_all is_sd_byte bytes)
 
 abbrev pub is_no_dot : ℕ → Bool
 is_no_dot b = not (b == 46)
@@ -59,7 +60,8 @@ checked found = if is_sd_name found.id && is_param_name found.param then Some fo
 
 -- what the name of a pair says, where it is of the grammar
 unfoldable pub sd_name : List ℕ → Option SdName
-sd_name name = if bytes_eq (take 7 name) (codes ".SDATA.") then checked (split_name (drop 7 name)) else None
+sd_name name = if bytes_eq (take 7 name) (codes ".SDATA.") then checked (split_name (drop 7 name))
+    else None
 
 abbrev pub item_of : NameValue → Option SdItem
 item_of pair =

@@ -26,9 +26,11 @@ unix_text at count = signed_decimal (int_div_euclid at (pos 1000000))
 -- a part of a stamp, with so many digits of a fraction; ChosenDate is the ISO date where that is chosen, and else the BSD date
 unfoldable pub date_text : DatePart → Stamp → ℕ → Bool → List ℕ
 date_text Date stamp count iso = bsd_stamp_text stamp count
-date_text FullDate stamp count iso = digits 4 (local_time stamp).year ++ codes " " ++ bsd_stamp_text stamp count
+date_text FullDate stamp count iso =
+    digits 4 (local_time stamp).year ++ codes " " ++ bsd_stamp_text stamp count
 date_text IsoDate stamp count iso = iso_stamp_text stamp count
-date_text ChosenDate stamp count iso = if iso then iso_stamp_text stamp count else bsd_stamp_text stamp count
+date_text ChosenDate stamp count iso =
+    if iso then iso_stamp_text stamp count else bsd_stamp_text stamp count
 date_text UnixTime stamp count iso = unix_text stamp.at count
 date_text Year stamp count iso = digits 4 (local_time stamp).year
 date_text Month stamp count iso = digits 2 (local_time stamp).month
@@ -81,7 +83,8 @@ macro_text Facility content env = facility_name (content.pri / 8)
 macro_text Severity content env = severity_name (content.pri % 8)
 macro_text PriHex content env = hex_text content.pri
 macro_text Tags content env = tags_text content.tags
-macro_text Header content env = header_text (text_of (codes "PROGRAM") content.pairs) (text_of (codes "PID") content.pairs)
+macro_text Header content env =
+    header_text (text_of (codes "PROGRAM") content.pairs) (text_of (codes "PID") content.pairs)
 macro_text Sdata content env = sdata_text content.pairs
 macro_text OldValue content env = unwrap_or env.old []
 macro_text (OfStamp kind part) content env = date_text part

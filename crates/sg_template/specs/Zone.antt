@@ -10,7 +10,8 @@ has_year at offset =
 
 -- the stamp at that offset, or at its own where the year there isn't in range
 abbrev pub moved_stamp : Stamp → ℤ → Stamp
-moved_stamp stamp offset = if has_year stamp.at offset then (record { at = stamp.at; offset = offset }) else stamp
+moved_stamp stamp offset = if has_year stamp.at offset
+    then (record { at = stamp.at; offset = offset }) else stamp
 
 -- the stamp at the zone's offset, or at its own where there is no zone
 unfoldable pub shown_stamp : Option ℤ → Stamp → Stamp

@@ -30,13 +30,15 @@ micros_from unit (b ∷ bs) = (b - 48) * unit + micros_from (unit / 10) bs
 abbrev pub IsFraction : List ℕ → ℕ → Type 0
 IsFraction text micros =
     ((text ≡ []) × (micros ≡ 0))
-    ⊎ ((ds : List ℕ) × ((text ≡ codes "." ++ ds) × All IsDigit ds × (1 ≤ length ds) × (length ds ≤ 6) × (micros ≡ micros_from 100000 ds)))
+    ⊎ ((ds : List ℕ) × ((text ≡ codes "." ++ ds) × All IsDigit ds × (1 ≤ length ds)
+    × (length ds ≤ 6) × (micros ≡ micros_from 100000 ds)))
 
 -- so many minutes east of UTC: Z, +hh:mm or -hh:mm, with hours to 23 and minutes to 59
 pub data IsZone : List ℕ → ℤ → Type 0 where
   zulu : IsZone (codes "Z") (pos 0)
   east : (minutes : ℕ) → minutes < 1440 → IsZone (codes "+" ++ minutes_text minutes) (pos minutes)
-  west : (minutes : ℕ) → minutes < 1440 → IsZone (codes "-" ++ minutes_text minutes) (neg_ℤ (pos minutes))
+  west : (minutes : ℕ) → minutes < 1440
+      → IsZone (codes "-" ++ minutes_text minutes) (neg_ℤ (pos minutes))
 
 -- the local time of the stamp
 abbrev pub IsMoment : Stamp → Date → Time → ℕ → Type 0
@@ -54,7 +56,8 @@ pub record IsIso (text : List ℕ) (stamp : Stamp) (len : ℕ) : Type 0 where
   pub zone : List ℕ
   pub is_zone : IsZone zone stamp.offset
   pub rest : List ℕ
-  pub is_text : text ≡ date_form date ++ codes "T" ++ clock_form time ++ (fraction ++ (zone ++ rest))
+  pub is_text : text ≡ date_form date ++ codes "T" ++ clock_form time
+      ++ (fraction ++ (zone ++ rest))
   pub is_len : length text ≡ len + length rest
   pub moment : IsMoment stamp date time micros
 
@@ -70,7 +73,8 @@ year_by_receipt received month =
     && (received.month == 12) then pos received.year +ℤ pos 1 else pos received.year)
 
 -- The text begins with a BSD stamp of so many bytes, received at this local time and offset.
-pub record IsBsd (text : List ℕ) (received : LocalTime) (offset : ℤ) (stamp : Stamp) (len : ℕ) : Type 0 where
+pub record IsBsd (text : List ℕ) (received : LocalTime) (offset : ℤ) (stamp : Stamp)
+    (len : ℕ) : Type 0 where
   pub date : Date
   pub years : pos 0 ≤ℤ date.year
   pub by_receipt : date.year ≡ year_by_receipt received date.month
@@ -78,7 +82,8 @@ pub record IsBsd (text : List ℕ) (received : LocalTime) (offset : ℤ) (stamp 
   pub is_day : IsDay day date.day
   pub time : Time
   pub rest : List ℕ
-  pub is_text : text ≡ month_name date.month ++ (codes " " ++ (day ++ (codes " " ++ clock_form time ++ rest)))
+  pub is_text : text ≡ month_name date.month
+      ++ (codes " " ++ (day ++ (codes " " ++ clock_form time ++ rest)))
   pub is_len : length text ≡ len + length rest
   pub same_offset : stamp.offset ≡ offset
   pub moment : IsMoment stamp date time 0

@@ -16,7 +16,8 @@ date_text year month day = digits 4 year ++ codes "-" ++ digits 2 month ++ codes
 
 -- hh:mm:ss
 abbrev pub clock_text : ℕ → ℕ → ℕ → List ℕ
-clock_text hour minute second = digits 2 hour ++ codes ":" ++ digits 2 minute ++ codes ":" ++ digits 2 second
+clock_text hour minute second =
+    digits 2 hour ++ codes ":" ++ digits 2 minute ++ codes ":" ++ digits 2 second
 
 -- a dot and so many digits of a second's fraction, the rest cut off; nothing for 0 digits
 abbrev pub fraction_text : ℕ → ℕ → List ℕ
@@ -33,7 +34,8 @@ offset_text (pos n) = codes "+" ++ minutes_text n
 offset_text (negsuc n) = codes "-" ++ minutes_text (suc n)
 
 abbrev pub month_names : List (List ℕ)
-month_names = codes "Jan" ∷ codes "Feb" ∷ codes "Mar" ∷ codes "Apr" ∷ codes "May" ∷ codes "Jun" ∷ codes "Jul" ∷ codes "Aug" ∷ codes "Sep" ∷ codes "Oct" ∷ codes "Nov" ∷ codes "Dec" ∷ []
+month_names = codes "Jan" ∷ codes "Feb" ∷ codes "Mar" ∷ codes "Apr" ∷ codes "May" ∷ codes "Jun"
+    ∷ codes "Jul" ∷ codes "Aug" ∷ codes "Sep" ∷ codes "Oct" ∷ codes "Nov" ∷ codes "Dec" ∷ []
 
 -- the name of a month, from 1
 abbrev pub month_name : ℕ → List ℕ
@@ -45,7 +47,9 @@ day_text day = if nat_lt day 10 then codes " " ++ digits 1 day else digits 2 day
 
 -- YYYY-MM-DDThh:mm:ss, the fraction and the offset
 abbrev pub iso_local_text : LocalTime → ℤ → ℕ → List ℕ
-iso_local_text local offset count = date_text local.year local.month local.day ++ codes "T" ++ clock_text local.hour local.minute local.second ++ fraction_text count local.microsecond ++ offset_text offset
+iso_local_text local offset count = date_text local.year local.month local.day ++ codes "T"
+    ++ clock_text local.hour local.minute local.second ++ fraction_text count local.microsecond
+    ++ offset_text offset
 
 -- the ISO text of a stamp with so many digits of the fraction
 unfoldable pub iso_stamp_text : Stamp → ℕ → List ℕ
@@ -53,7 +57,8 @@ iso_stamp_text stamp count = iso_local_text (local_time stamp) stamp.offset coun
 
 -- Mmm dd hh:mm:ss and the fraction
 abbrev pub bsd_local_text : LocalTime → ℕ → List ℕ
-bsd_local_text local count = month_name local.month ++ codes " " ++ day_text local.day ++ codes " " ++ clock_text local.hour local.minute local.second ++ fraction_text count local.microsecond
+bsd_local_text local count = month_name local.month ++ codes " " ++ day_text local.day ++ codes " "
+    ++ clock_text local.hour local.minute local.second ++ fraction_text count local.microsecond
 
 -- the BSD text of a stamp with so many digits of the fraction
 unfoldable pub bsd_stamp_text : Stamp → ℕ → List ℕ

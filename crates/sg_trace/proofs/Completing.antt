@@ -1,7 +1,7 @@
 -- INPUT is traced to its end, where the machine tells its files and nothing fails.
-use Rattle.std.proofs.Common.{◌≡◌, ◌∙◌, ℕ, List, Option, Some, None, Result, Ok, Err, sym, ap, subst, arith}
+use Rattle.std.proofs.Common.{◌≡◌, ◌∙◌, ℕ, List, Option, Some, None, Result, Ok, Err, sym, ap, subst}
 use Rattle.sg_device.specs.Faults.{Rose}
-use Rattle.sg_outside.specs.World.{Files, WorldState, OnlyReads}
+use Rattle.sg_outside.specs.World.{Files, WorldState}
 use Rattle.sg_expand.specs.One.{AreAlikeOutcomes as OutcomesAreAlike}
 use Rattle.sg_run_plan.specs.declared.inlet.InletPlan.{InletPlan}
 use Rattle.sg_config.specs.Alike.{AreAlikeConfigs}
@@ -15,13 +15,6 @@ use Rattle.sg_trace.specs.declared.unshown.Unshown.{Unshown}
 use Rattle.sg_trace.specs.Tracing.{first_of, shown, TracesInlet, TracesSource}
 use Rattle.sg_trace.specs.Completeness.{ShowsUntroubled, WasShown}
 use Rattle.sg_loaded.proofs.Complete.{ExpansionsAreOne, MeansOne, same-tokens}
-
--- a configuration is loaded as well where files were read again behind it
-pub loads-read : (old loaded new : WorldState) → OnlyLoads old loaded → OnlyReads loaded new → OnlyLoads old new
-loads-read old loaded new loads reads =
-    let (is, read, build) = loads in
-    let (same, more) = reads in
-    (grind arith, grind arith, grind arith)
 
 -- ---- a file is one configuration
 

@@ -1,5 +1,5 @@
 -- The trace of an open file, pull after pull.
-use Rattle.std.proofs.Common.{◌≡◌, ◌≤◌, ◌<◌, ◌+◌, ◌^◌, ℕ, List, [], ◌++◌, length, Bool, true, false, Result, Ok, Err, IsErrAnd, inl, inr, sym, ap, ◌∙◌, subst, arith, length-append}
+use Rattle.std.proofs.Common.{◌≡◌, ◌≤◌, ◌<◌, ◌+◌, ◌^◌, ℕ, List, [], ◌++◌, length, Bool, true, false, Ok, Err, inl, inr, sym, ap, ◌∙◌, subst, arith, length-append}
 use Rattle.std.proofs.lemmas.List.{append-nil}
 use Rattle.sg_device.specs.Inlet.{Stamped, InletState}
 use Rattle.sg_frame.specs.declared.kind.FrameKind.{FrameKind}
@@ -14,17 +14,13 @@ use Rattle.sg_trace.specs.Pulling.{PullsTraced}
 use Rattle.sg_trace.specs.Reading.{ReadsSo, ReadsTraced}
 use Rattle.sg_trace.specs.Rows.{Offering, AreOffered, items_in, rows_text}
 use Rattle.sg_output.specs.Saying.{OnlySays, SaidSome}
-use Rattle.sg_trace.specs.Saying.{SaysSome}
+use Rattle.sg_trace.specs.Saying.{SaysSomeTraced}
 use Rattle.sg_trace.specs.Taking.{IsBadForm, TakesAllItems}
-use Rattle.sg_trace.specs.Traces.{AreAll, AreWhole, TracesOpen, TracesTo}
+use Rattle.sg_trace.specs.Traces.{AreAll, AreWholeRows, TracesOpen, TracesTo}
 use Rattle.sg_trace.specs.Opened.{IsTraceBegun, TracedSo, IsTracing}
 use Rattle.sg_trace.proofs.Readings.{reads-begun, whole-items, open-form}
 use Rattle.sg_output.proofs.Sayings.{rose-later, says-none, only-says-none, only-says-then, some-then, some-more}
 use Rattle.sg_trace.proofs.Takings.{items-append, offered-append, rows-append}
-
-pub err-is : {T E : Type 0} → (r : Result T E) (e : E) → IsErrAnd r (λ s. s ≡ e) → r ≡ Err e
-err-is (Ok x) e h = absurd h
-err-is (Err x) e h = ap Err h
 
 module _ (offering : Offering) (targets : List SentForm) (kind : FrameKind) (limit : ℕ) (first : InletState) (world : WorldState) where
   pub tracing-begun : (tracer : Tracer) → IsTraceBegun kind limit first tracer → IsTracing offering targets kind limit first first world world tracer 0
@@ -84,7 +80,7 @@ module _ (offering : Offering) (targets : List SentForm) (kind : FrameKind) (lim
         let done = pull kind limit first (items_in rows) so.reads in
         let (bytes, h) = done.0 in
         let none : items_left f' ≡ [] = ap items_left done.1 ∙ so.none in
-        let whole : AreWhole kind limit first feed' rows = record { bytes = bytes; given = h.given; items = whole-items kind limit first feed' f' (items_in rows) bytes h none } in
+        let whole : AreWholeRows kind limit first feed' rows = record { bytes = bytes; given = h.given; items = whole-items kind limit first feed' f' (items_in rows) bytes h none } in
         let opened : TracesOpen offering targets kind limit first feed' world now tracer.text.items (Err InletFault) rows = record {
           later = omega (arith, so.reads.1.later, faults);
           says = so.says;
@@ -134,7 +130,7 @@ module _ (offering : Offering) (targets : List SentForm) (kind : FrameKind) (lim
         (all, traced)
 
     -- some of the text was said
-    pub tracing-said : (later : WorldState) (new : Tracer) → IsTracing offering targets kind limit first feed world now tracer pulls → OnlySays now later → SaysSome now later tracer.text.items new.text.items (Ok tt)
+    pub tracing-said : (later : WorldState) (new : Tracer) → IsTracing offering targets kind limit first feed world now tracer pulls → OnlySays now later → SaysSomeTraced now later tracer.text.items new.text.items (Ok tt)
         → new.framer ≡ tracer.framer → new.number ≡ tracer.number → IsTracing offering targets kind limit first feed world later new pulls
     tracing-said later new (rows, so) says said framer number =
         let traced : TracedSo offering targets kind limit first feed world later new pulls rows = record {
@@ -151,7 +147,7 @@ module _ (offering : Offering) (targets : List SentForm) (kind : FrameKind) (lim
         (rows, traced)
 
     -- it couldn't be said
-    pub traces-unsaid : (later : WorldState) (text : List ℕ) (why : Untraced) → IsTracing offering targets kind limit first feed world now tracer pulls → OnlySays now later → SaysSome now later tracer.text.items text (Err why)
+    pub traces-unsaid : (later : WorldState) (text : List ℕ) (why : Untraced) → IsTracing offering targets kind limit first feed world now tracer pulls → OnlySays now later → SaysSomeTraced now later tracer.text.items text (Err why)
         → TracesTo offering targets kind limit first feed world later text (Err why)
     traces-unsaid later text NotOpened tracing says some = absurd some
     traces-unsaid later text InletFault tracing says some = absurd some
@@ -190,7 +186,7 @@ module _ (offering : Offering) (targets : List SentForm) (kind : FrameKind) (lim
     pub traces-spent : IsTracing offering targets kind limit first feed world now tracer pulls → pulls ≡ 2 ^ 36 → TracesTo offering targets kind limit first feed world now tracer.text.items (Err RoundsSpent)
     traces-spent (rows, so) all =
         let (bytes, h) = so.reads in
-        let whole : AreWhole kind limit first feed rows = record { bytes = bytes; given = h.given; items = whole-items kind limit first feed tracer.framer (items_in rows) bytes h so.none } in
+        let whole : AreWholeRows kind limit first feed rows = record { bytes = bytes; given = h.given; items = whole-items kind limit first feed tracer.framer (items_in rows) bytes h so.none } in
         let spent : 2 ^ 36 < feed.bytes + feed.parts + feed.idles = omega (arith, all, so.brought) in
         let opened : TracesOpen offering targets kind limit first feed world now tracer.text.items (Err RoundsSpent) rows = record {
           later = h.later;

@@ -14,7 +14,7 @@ use Rattle.sg_trace.specs.declared.untraced.Untraced.{Untraced}
 use Rattle.sg_trace.specs.declared.untraced.Untraced.TheVariants.{NotOpened, InletFault, RoundsSpent, SayFault, NoMemory}
 use Rattle.sg_trace.specs.Rows.{TracedRow, Offering, AreOffered, rows_text}
 use Rattle.sg_output.specs.Saying.{OnlySays, SaidText, SaidSome}
-use Rattle.sg_trace.specs.Traces.{TraceEnds, UnlessUnsaid, TracesOpen, TracesTo, EndsTracing, Feed, spec_of, end_text, HasTracingCause, TracesUntroubled, WasTraced, TracesBy, Traces}
+use Rattle.sg_trace.specs.Traces.{TraceEnds, UnlessTraceUnsaid, TracesOpen, TracesTo, EndsTracing, Feed, spec_of, end_text, HasTracingCause, TracesUntroubled, WasTraced, TracesBy, Traces}
 use Rattle.sg_trace.specs.Opened.{IsTraceBegun}
 use Rattle.sg_output.proofs.Sayings.{rose-later, rose-on, only-says-then, all-said}
 
@@ -39,8 +39,8 @@ begins kind files input limit feed tracer new stands framer number text = record
   text = text;
 }
 
-unless-said : (a b c : WorldState) (lines text : List ℕ) (traced : Result Unit Untraced) → UnlessUnsaid traced (SaidSome a b lines text) → UnlessUnsaid traced (SaidText b c (text ++ end_text traced))
-    → UnlessUnsaid traced (SaidText a c (lines ++ end_text traced))
+unless-said : (a b c : WorldState) (lines text : List ℕ) (traced : Result Unit Untraced) → UnlessTraceUnsaid traced (SaidSome a b lines text) → UnlessTraceUnsaid traced (SaidText b c (text ++ end_text traced))
+    → UnlessTraceUnsaid traced (SaidText a c (lines ++ end_text traced))
 unless-said a b c lines text (Ok done) h k = all-said a b c lines text (end_text (Ok done)) h k
 unless-said a b c lines text (Err NotOpened) h k = all-said a b c lines text (end_text (Err NotOpened)) h k
 unless-said a b c lines text (Err InletFault) h k = all-said a b c lines text (end_text (Err InletFault)) h k
@@ -62,7 +62,7 @@ caused kind limit first feed a b old new rows (Err NoMemory) from to h = tt
 pub record ClosesWhole (offering : Offering) (targets : List SentForm) (kind : FrameKind) (limit : ℕ) (first feed : InletState) (a c : WorldState) (result : Result Unit Untraced) (rows : List TracedRow) : Type 0 where
   pub says : OnlySays a c
   pub offered : AreOffered offering first.peer rows
-  pub said : UnlessUnsaid result (SaidText a c (rows_text targets 0 rows ++ end_text result))
+  pub said : UnlessTraceUnsaid result (SaidText a c (rows_text targets 0 rows ++ end_text result))
   pub ends : TraceEnds kind limit first feed a c rows result
 
 pub closes : (offering : Offering) (targets : List SentForm) (kind : FrameKind) (limit : ℕ) (first feed : InletState) (a b c : WorldState) (text : List ℕ) (traced result : Result Unit Untraced) (rows : List TracedRow)
@@ -97,7 +97,7 @@ closes offering targets kind limit first feed a b c text traced result rows o e 
     ]
 
 -- from the opening to the closing
-said-from : (result : Result Unit Untraced) (a old c new : WorldState) (text : List ℕ) → a.said ≡ old.said → new.said ≡ c.said → UnlessUnsaid result (SaidText a c text) → UnlessUnsaid result (SaidText old new text)
+said-from : (result : Result Unit Untraced) (a old c new : WorldState) (text : List ℕ) → a.said ≡ old.said → new.said ≡ c.said → UnlessTraceUnsaid result (SaidText a c text) → UnlessTraceUnsaid result (SaidText old new text)
 said-from (Ok done) a old c new text from to h = to ∙ h ∙ ap (option_map (λ said. said ++ text)) from
 said-from (Err NotOpened) a old c new text from to h = to ∙ h ∙ ap (option_map (λ said. said ++ text)) from
 said-from (Err InletFault) a old c new text from to h = to ∙ h ∙ ap (option_map (λ said. said ++ text)) from
@@ -172,7 +172,7 @@ traces-unopened offering targets kind limit old a new input text result none ref
     let same : new ≡ record old { inlets = old.inlets; inlet_faults = new.inlet_faults; say_faults = new.say_faults; said = new.said } =
     e.says.same ∙ ap (λ (w : WorldState). record w { say_faults = new.say_faults; said = new.said }) refused.0
     ∙ (λ i. record old { inlet_faults = (sym counts) i; say_faults = new.say_faults; said = new.said }) in
-    let by : (r : Result Unit Untraced) → HasTracingCause kind limit old new None [] r → UnlessUnsaid r (SaidText old new (end_text r)) → TracesBy offering targets kind limit old new input r None [] =
+    let by : (r : Result Unit Untraced) → HasTracingCause kind limit old new None [] r → UnlessTraceUnsaid r (SaidText old new (end_text r)) → TracesBy offering targets kind limit old new input r None [] =
     λ r cause said. record {
       state = same;
       inlet_later = omega (arith, refused.1, counts);

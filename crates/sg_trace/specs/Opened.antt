@@ -11,7 +11,8 @@ use Rattle.sg_trace.specs.Rows.{TracedRow, Offering, AreOffered, items_in, rows_
 use Rattle.sg_output.specs.Saying.{OnlySays, SaidSome}
 
 -- a file from its beginning, of which nothing was read
-pub record IsTraceBegun (kind : FrameKind) (limit : ℕ) (feed : InletState) (tracer : Tracer) : Type 0 where
+pub record IsTraceBegun (kind : FrameKind) (limit : ℕ) (feed : InletState)
+    (tracer : Tracer) : Type 0 where
   pub fresh_feed : IsFresh feed
   pub from : feed.from ≡ 0
   pub parts : feed.parts ≡ 1
@@ -21,7 +22,9 @@ pub record IsTraceBegun (kind : FrameKind) (limit : ℕ) (feed : InletState) (tr
   pub text : tracer.text.items ≡ []
 
 -- these rows were traced, and no whole item is left
-pub record TracedSo (offering : Offering) (targets : List SentForm) (kind : FrameKind) (limit : ℕ) (first feed : InletState) (world world' : WorldState) (tracer : Tracer) (pulls : ℕ) (rows : List TracedRow) : Type 0 where
+pub record TracedSo (offering : Offering) (targets : List SentForm) (kind : FrameKind) (limit : ℕ)
+    (first feed : InletState) (world world' : WorldState) (tracer : Tracer) (pulls : ℕ)
+    (rows : List TracedRow) : Type 0 where
   pub reads : ReadsTraced kind limit first feed tracer.framer (items_in rows)
   pub none : items_left tracer.framer ≡ []
   pub going : feed.ended ≡ false
@@ -32,7 +35,8 @@ pub record TracedSo (offering : Offering) (targets : List SentForm) (kind : Fram
   pub says : OnlySays world world'
   pub said : SaidSome world world' (rows_text targets 0 rows) tracer.text.items
 
-abbrev pub IsTracing : Offering → List SentForm → FrameKind → ℕ → InletState → InletState → WorldState
+abbrev pub IsTracing : Offering → List SentForm → FrameKind → ℕ → InletState → InletState
+    → WorldState
     → WorldState → Tracer → ℕ → Type 0
 IsTracing offering targets kind limit first feed world world' tracer pulls =
     (rows : List TracedRow)

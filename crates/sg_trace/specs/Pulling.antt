@@ -21,7 +21,8 @@ PullsTo kind limit first old new f f' items (Ok true) = ReadsTraced kind limit f
     × (new.ended ≡ true) × (f' ≡ f)
 PullsTo kind limit first old new f f' items (Ok false) = ReadsTraced kind limit first new f' items
     × (new.ended ≡ false) × BringsSome old new
-PullsTo kind limit first old new f f' items (Err InletFault) = ReadsTraced kind limit first new f' items
+PullsTo kind limit first old new f f' items (Err InletFault) =
+    ReadsTraced kind limit first new f' items
     × (f' ≡ f) × Rose old.faults new.faults
 PullsTo kind limit first old new f f' items (Err NoMemory) = Unit {0}
 PullsTo kind limit first old new f f' items (Err NotOpened) = ⊥
@@ -29,5 +30,6 @@ PullsTo kind limit first old new f f' items (Err RoundsSpent) = ⊥
 PullsTo kind limit first old new f f' items (Err SayFault) = ⊥
 
 abbrev pub PullsTraced : InletState → InletState → Framing → Framing → Result Bool Untraced → Type 0
-PullsTraced old new f f' result = (kind : FrameKind) (limit : ℕ) (first : InletState) (items : List Item)
+PullsTraced old new f f' result =
+    (kind : FrameKind) (limit : ℕ) (first : InletState) (items : List Item)
     → ReadsTraced kind limit first old f items → PullsTo kind limit first old new f f' items result

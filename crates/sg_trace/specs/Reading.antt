@@ -12,7 +12,8 @@ HasGiven feed peer bytes = IfSome feed.told
     (λ parts. parts ≡ (record { peer = peer; given = bytes }) ∷ [])
 
 -- Of these bytes, which are all that the file gave, these items were taken.
-pub record ReadsSo (kind : FrameKind) (limit : ℕ) (first feed : InletState) (f : Framing) (items : List Item) (bytes : List Stamped) : Type 0 where
+pub record ReadsSo (kind : FrameKind) (limit : ℕ) (first feed : InletState) (f : Framing)
+    (items : List Item) (bytes : List Stamped) : Type 0 where
   pub framed : HasFramed bytes items f
   pub same_kind : f.kind ≡ kind
   pub same_limit : f.limit ≡ limit

@@ -28,7 +28,10 @@ path_text (Some path) = codes " path " ++ path
 -- an offer: the number of its record, its destination, its flow, its path, and the length of what is sent for it
 abbrev pub offer_line : (number dest : ℕ) → Bool → Option (List ℕ) → ℕ → List ℕ
 offer_line number dest flow path length =
-    codes "record " ++ (decimal number ++ (codes " destination " ++ (decimal dest ++ (codes " flow " ++ (flow_text flow ++ (path_text path ++ (codes " length " ++ (decimal length ++ codes "\n"))))))))
+    codes "record " ++ (decimal number
+    ++ (codes " destination " ++ (decimal dest
+    ++ (codes " flow " ++ (flow_text flow
+    ++ (path_text path ++ (codes " length " ++ (decimal length ++ codes "\n"))))))))
 
 -- what a destination sends for the message, where there is one
 abbrev pub frame_by : Option SentForm → Offer → List ℕ

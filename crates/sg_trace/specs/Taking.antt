@@ -17,14 +17,16 @@ pub record PassesItems (old new : Framing) (items : List Item) : Type 0 where
   pub timely : AreTimely old.held → AreTimely new.held
 
 -- the items became these rows, whose lines were appended
-pub record TakesBy (offering : Offering) (targets : List SentForm) (peer : List ℕ) (old new : Tracer) (rows : List TracedRow) : Type 0 where
+pub record TakesBy (offering : Offering) (targets : List SentForm) (peer : List ℕ)
+    (old new : Tracer) (rows : List TracedRow) : Type 0 where
   pub passes : PassesItems old.framer new.framer (items_in rows)
   pub offered : AreOffered offering peer rows
   pub said : new.text.items ≡ old.text.items ++ rows_text targets old.number rows
   pub count : new.number ≡ old.number + length rows
 
 abbrev pub TakesItems : Offering → List SentForm → List ℕ → Tracer → Tracer → Type 0
-TakesItems offering targets peer old new = (rows : List TracedRow) × TakesBy offering targets peer old new rows
+TakesItems offering targets peer old new =
+    (rows : List TracedRow) × TakesBy offering targets peer old new rows
 
 -- nothing behind it is an item
 abbrev pub IsBadForm : Form → Type 0

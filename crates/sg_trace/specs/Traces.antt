@@ -17,25 +17,28 @@ use Rattle.sg_output.specs.Saying.{OnlySays, SaidText, SaidSome}
 use Rattle.sg_trace.specs.Taking.{IsBadForm}
 
 -- These are all whole items of what the file gave; and where it must, a bad count follows them, or the file has ended.
-pub record AreAll (kind : FrameKind) (limit : ℕ) (first feed : InletState) (rows : List TracedRow) : Type 0 where
+pub record AreAll (kind : FrameKind) (limit : ℕ) (first feed : InletState)
+    (rows : List TracedRow) : Type 0 where
   pub bytes : List Stamped
   pub given : HasGiven feed first.peer bytes
   pub items : items_of kind limit bytes ≡ items_in rows
   pub over : (feed.ended ≡ true) ⊎ IsBadForm (open_of kind limit bytes)
 
-pub record AreWhole (kind : FrameKind) (limit : ℕ) (first feed : InletState) (rows : List TracedRow) : Type 0 where
+pub record AreWholeRows (kind : FrameKind) (limit : ℕ) (first feed : InletState)
+    (rows : List TracedRow) : Type 0 where
   pub bytes : List Stamped
   pub given : HasGiven feed first.peer bytes
   pub items : items_of kind limit bytes ≡ items_in rows
 
 -- when each answer comes, behind these rows; lack of memory is free
-abbrev pub TraceEnds : FrameKind → ℕ → InletState → InletState → WorldState → WorldState → List TracedRow
+abbrev pub TraceEnds : FrameKind → ℕ → InletState → InletState → WorldState → WorldState
+    → List TracedRow
     → Result Unit Untraced → Type 0
 TraceEnds kind limit first feed world world' rows (Ok done) = AreAll kind limit first feed rows
 TraceEnds kind limit first feed world world' rows (Err InletFault) =
-    AreWhole kind limit first feed rows × Rose first.faults feed.faults
+    AreWholeRows kind limit first feed rows × Rose first.faults feed.faults
 TraceEnds kind limit first feed world world' rows (Err RoundsSpent) =
-    AreWhole kind limit first feed rows × (feed.pulls ≡ 2 ^ 36) × (feed.ended ≡ false)
+    AreWholeRows kind limit first feed rows × (feed.pulls ≡ 2 ^ 36) × (feed.ended ≡ false)
     × (2 ^ 36 < feed.bytes + feed.parts + feed.idles)
 TraceEnds kind limit first feed world world' rows (Err SayFault) = Rose world.say_faults
     world'.say_faults
@@ -43,23 +46,26 @@ TraceEnds kind limit first feed world world' rows (Err NoMemory) = Unit {0}
 TraceEnds kind limit first feed world world' rows (Err NotOpened) = ⊥
 
 -- it is so, but where saying failed or memory ran out
-abbrev pub UnlessUnsaid : Result Unit Untraced → Type 0 → Type 0
-UnlessUnsaid (Ok done) P = P
-UnlessUnsaid (Err NotOpened) P = P
-UnlessUnsaid (Err InletFault) P = P
-UnlessUnsaid (Err RoundsSpent) P = P
-UnlessUnsaid (Err SayFault) P = Unit {0}
-UnlessUnsaid (Err NoMemory) P = Unit {0}
+abbrev pub UnlessTraceUnsaid : Result Unit Untraced → Type 0 → Type 0
+UnlessTraceUnsaid (Ok done) P = P
+UnlessTraceUnsaid (Err NotOpened) P = P
+UnlessTraceUnsaid (Err InletFault) P = P
+UnlessTraceUnsaid (Err RoundsSpent) P = P
+UnlessTraceUnsaid (Err SayFault) P = Unit {0}
+UnlessTraceUnsaid (Err NoMemory) P = Unit {0}
 
 -- an open file was traced up to these rows, whose lines were said or are the text
-pub record TracesOpen (offering : Offering) (targets : List SentForm) (kind : FrameKind) (limit : ℕ) (first feed : InletState) (world world' : WorldState) (text : List ℕ) (result : Result Unit Untraced) (rows : List TracedRow) : Type 0 where
+pub record TracesOpen (offering : Offering) (targets : List SentForm) (kind : FrameKind) (limit : ℕ)
+    (first feed : InletState) (world world' : WorldState) (text : List ℕ)
+    (result : Result Unit Untraced) (rows : List TracedRow) : Type 0 where
   pub later : first.faults ≤ feed.faults
   pub says : OnlySays world world'
   pub offered : AreOffered offering first.peer rows
-  pub said : UnlessUnsaid result (SaidSome world world' (rows_text targets 0 rows) text)
+  pub said : UnlessTraceUnsaid result (SaidSome world world' (rows_text targets 0 rows) text)
   pub ends : TraceEnds kind limit first feed world world' rows result
 
-abbrev pub TracesTo : Offering → List SentForm → FrameKind → ℕ → InletState → InletState → WorldState
+abbrev pub TracesTo : Offering → List SentForm → FrameKind → ℕ → InletState → InletState
+    → WorldState
     → WorldState → List ℕ → Result Unit Untraced → Type 0
 TracesTo offering targets kind limit first feed world world' text result =
     (rows : List TracedRow)
@@ -75,9 +81,11 @@ end_text (Err SayFault) = []
 end_text (Err NoMemory) = []
 
 -- The text and the end were said, but where saying had failed before; or saying failed now, or memory ran out.
-pub record EndsTracing (old new : WorldState) (text : List ℕ) (traced result : Result Unit Untraced) : Type 0 where
+pub record EndsTracing (old new : WorldState) (text : List ℕ)
+    (traced result : Result Unit Untraced) : Type 0 where
   pub says : OnlySays old new
-  pub ends : ((result ≡ traced) × UnlessUnsaid traced (SaidText old new (text ++ end_text traced)))
+  pub ends : ((result ≡ traced) × UnlessTraceUnsaid traced
+      (SaidText old new (text ++ end_text traced)))
       ⊎ (((result ≡ Err SayFault) × Rose old.say_faults new.say_faults) ⊎ (result ≡ Err NoMemory))
 
 -- the inlet, as it was opened and as it was closed
@@ -95,14 +103,15 @@ abbrev pub read_inlets : Ledger InletSpec InletState → InletSpec → Option Fe
 read_inlets ledger spec None = ledger
 read_inlets ledger spec (Some feed) = with_closed (with_opened ledger spec feed.opened) feed.closed
 
-abbrev pub IfOpened : Option Feed → (Feed → Type 0) → Type 0
-IfOpened None P = Unit {0}
-IfOpened (Some feed) P = P feed
+abbrev pub IfFeedOpened : Option Feed → (Feed → Type 0) → Type 0
+IfFeedOpened None P = Unit {0}
+IfFeedOpened (Some feed) P = P feed
 
 -- when each answer comes
 abbrev pub HasTracingCause : FrameKind → ℕ → WorldState → WorldState → Option Feed → List TracedRow
     → Result Unit Untraced → Type 0
-HasTracingCause kind limit old new (Some feed) rows result = TraceEnds kind limit feed.opened feed.closed
+HasTracingCause kind limit old new (Some feed) rows result =
+    TraceEnds kind limit feed.opened feed.closed
     old new rows result
 HasTracingCause kind limit old new None rows (Ok done) = ⊥
 HasTracingCause kind limit old new None rows (Err NotOpened) = (rows ≡ [])
@@ -116,7 +125,7 @@ HasTracingCause kind limit old new None rows (Err NoMemory) = Unit {0}
 pub record TracesUntroubled (old new : WorldState) (feed : Option Feed) : Type 0 where
   pub opening : ¬ Rose old.inlet_faults new.inlet_faults
   pub say : ¬ Rose old.say_faults new.say_faults
-  pub inlet : IfOpened feed (λ f. (¬ Rose f.opened.faults f.closed.faults)
+  pub inlet : IfFeedOpened feed (λ f. (¬ Rose f.opened.faults f.closed.faults)
       × (f.closed.bytes + f.closed.parts + f.closed.idles ≤ 2 ^ 36))
 
 -- all was said, or memory ran out
@@ -129,18 +138,25 @@ WasTraced (Err RoundsSpent) = ⊥
 WasTraced (Err SayFault) = ⊥
 
 -- the file was traced up to these rows
-pub record TracesBy (offering : Offering) (targets : List SentForm) (kind : FrameKind) (limit : ℕ) (old new : WorldState) (input : List ℕ) (result : Result Unit Untraced) (feed : Option Feed) (rows : List TracedRow) : Type 0 where
+pub record TracesBy (offering : Offering) (targets : List SentForm) (kind : FrameKind) (limit : ℕ)
+    (old new : WorldState) (input : List ℕ) (result : Result Unit Untraced) (feed : Option Feed)
+    (rows : List TracedRow) : Type 0 where
   -- nothing but that file was opened, and it was closed
-  pub state : new ≡ record old
-      { inlets = read_inlets old.inlets (spec_of input limit) feed; inlet_faults = new.inlet_faults; say_faults = new.say_faults; said = new.said }
+  pub state : new ≡ record old {
+    inlets = read_inlets old.inlets (spec_of input limit) feed;
+    inlet_faults = new.inlet_faults;
+    say_faults = new.say_faults;
+    said = new.said;
+  }
   pub inlet_later : old.inlet_faults ≤ new.inlet_faults
   pub say_later : old.say_faults ≤ new.say_faults
-  pub begun : IfOpened feed
+  pub begun : IfFeedOpened feed
       (λ f. IsFresh f.opened × StandsIn old.files (spec_of input limit) 0 f.opened)
   -- the offers said are those of the records, each record alone
-  pub offered : IfOpened feed (λ f. AreOffered offering f.opened.peer rows)
+  pub offered : IfFeedOpened feed (λ f. AreOffered offering f.opened.peer rows)
   pub cause : HasTracingCause kind limit old new feed rows result
-  pub said : UnlessUnsaid result (SaidText old new (rows_text targets 0 rows ++ end_text result))
+  pub said : UnlessTraceUnsaid result
+      (SaidText old new (rows_text targets 0 rows ++ end_text result))
   -- no trouble gives success, where memory is there
   pub complete : TracesUntroubled old new feed → WasTraced result
 
@@ -148,4 +164,5 @@ abbrev pub Traces : Offering → List SentForm → FrameKind → ℕ → WorldSt
     → Result Unit Untraced → Type 0
 Traces offering targets kind limit old new input result =
     (feed : Option Feed)
-    × ((rows : List TracedRow) × TracesBy offering targets kind limit old new input result feed rows)
+    × ((rows : List TracedRow) × TracesBy offering targets kind limit old new input result feed
+    rows)

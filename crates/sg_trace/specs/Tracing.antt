@@ -27,7 +27,8 @@ is_named source (Some name) = bytes_eq name source
 -- the number of the first inlet of a source statement, where the first of these inlets has this number
 abbrev pub first_of : ℕ → List ℕ → List InletPlan → Option ℕ
 first_of number source [] = None
-first_of number source (inlet ∷ inlets) = if is_named source inlet.source then Some number else first_of (number + 1) source inlets
+first_of number source (inlet ∷ inlets) =
+    if is_named source inlet.source then Some number else first_of (number + 1) source inlets
 
 -- what a destination sends
 abbrev pub target_of : OutletPlan → SentForm
@@ -45,7 +46,8 @@ shown (Ok done) = Ok done
 shown (Err wrong) = Err (unshown.Untraced wrong)
 
 -- INPUT was traced as the inlet of this number would take it, through the log paths of the configuration
-pub record TracesInlet (config : Config) (i : ℕ) (loaded new : WorldState) (input : List ℕ) (result : Result Unit Unshown) : Type 0 where
+pub record TracesInlet (config : Config) (i : ℕ) (loaded new : WorldState) (input : List ℕ)
+    (result : Result Unit Unshown) : Type 0 where
   pub inlet : InletPlan
   pub at : slice_get config.inlets.items i ≡ Some inlet
   pub traced : Result Unit Untraced
@@ -73,7 +75,8 @@ TracesSource config file (Some i) loaded new input result = TracesInlet config i
 TracesSource config file None loaded new input result = (new ≡ loaded) × IsUnknown file result
 
 -- INPUT was traced through the log paths of the configuration of FILE, as SOURCE's first inlet would take it
-pub record TracesBy (old loaded new : WorldState) (file source input : List ℕ) (result : Result Unit Unshown) : Type 0 where
+pub record TracesBy (old loaded new : WorldState) (file source input : List ℕ)
+    (result : Result Unit Unshown) : Type 0 where
   pub of_file : Loaded
   pub configured : IsConfigured old file of_file
   pub traces : TracesSource of_file.config file (first_of 0 source of_file.config.inlets.items)
@@ -82,7 +85,8 @@ pub record TracesBy (old loaded new : WorldState) (file source input : List ℕ)
 -- why FILE wasn't loaded, unless memory ran out
 abbrev pub IsNotTraced : WorldState → WorldState → List ℕ → Result Unit Unshown → Type 0
 IsNotTraced old loaded file (Ok done) = ⊥
-IsNotTraced old loaded file (Err (unshown.Unloaded unloaded)) = LoadsFile old loaded file (Err unloaded)
+IsNotTraced old loaded file (Err (unshown.Unloaded unloaded)) =
+    LoadsFile old loaded file (Err unloaded)
 IsNotTraced old loaded file (Err (unshown.Untraced untraced.NoMemory)) = Unit {0}
 IsNotTraced old loaded file (Err (unshown.Untraced untraced.NotOpened)) = ⊥
 IsNotTraced old loaded file (Err (unshown.Untraced untraced.InletFault)) = ⊥

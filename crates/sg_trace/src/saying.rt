@@ -1,6 +1,6 @@
 // What is said on the way.
 ghost use Rattle.sg_output.specs.Saying.{OnlySays};
-ghost use Rattle.sg_trace.specs.Saying.{SaysAll, SaysSome};
+ghost use Rattle.sg_trace.specs.Saying.{SaysAllTraced, SaysSomeTraced};
 
 use crate::Untraced;
 use sg_device::SayRefusal;
@@ -17,7 +17,8 @@ pub(crate) fn say<W: World>(
     world: &mut W,
 ) -> Result<(), Untraced>
     ensures says { OnlySays (W.state world.old) (W.state world.new) }
-    ensures all { SaysAll (W.state world.old) (W.state world.new) text.old.items text.new.items
+    ensures all { SaysAllTraced (W.state world.old) (W.state world.new) text.old.items
+        text.new.items
         result }
 {
     match world.say(alloc, text) {
@@ -37,7 +38,8 @@ pub(crate) fn say_piece<W: World>(
     world: &mut W,
 ) -> Result<(), Untraced>
     ensures says { OnlySays (W.state world.old) (W.state world.new) }
-    ensures some { SaysSome (W.state world.old) (W.state world.new) text.old.items text.new.items
+    ensures some { SaysSomeTraced (W.state world.old) (W.state world.new) text.old.items
+        text.new.items
         result }
 {
     if text.len() < PIECE {

@@ -1,6 +1,6 @@
 -- What is walked one after another.
 use Rattle.std.proofs.Common.{◌≡◌, Bool, true, false, List, refl}
-use Rattle.std.specs.Prelude.{◌||◌}
+use Rattle.std.specs.Prelude.{◌||◌, ◌&&◌}
 use Rattle.std.proofs.lemmas.List.{append_assoc, append-nil}
 use Rattle.sg_msg.specs.Message.{Content}
 use Rattle.sg_msg.specs.declared.offer.Offer.{Offer}
@@ -26,3 +26,7 @@ both-assoc a b c =
 
 pub both-stopped : (a : WalkResult) → both a stopped ≡ a
 both-stopped a = same-walked _ _ _ _ _ _ (append-nil a.deliveries) (append-nil a.out) (or-false a.processed)
+
+pub and-left : (a b : Bool) → (a && b) ≡ true → a ≡ true
+and-left true b e = refl
+and-left false b e = e

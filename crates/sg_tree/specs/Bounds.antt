@@ -19,11 +19,19 @@ beside a b = record { offers = a.offers + b.offers; out = a.out + b.out; most = 
 
 -- the greatest of both, each number by itself
 abbrev pub greatest : Reach → Reach → Reach
-greatest a b = record { offers = max a.offers b.offers; out = max a.out b.out; most = max a.most b.most }
+greatest a b = record {
+  offers = max a.offers b.offers;
+  out = max a.out b.out;
+  most = max a.most b.most;
+}
 
 -- n messages, what becomes of them, and then the rest over those that come out
 abbrev pub onward : ℕ → Reach → Reach → Reach
-onward n first rest = record { offers = first.offers + rest.offers; out = rest.out; most = max n (max first.most rest.most) }
+onward n first rest = record {
+  offers = first.offers + rest.offers;
+  out = rest.out;
+  most = max n (max first.most rest.most);
+}
 
 abbrev mutual
   pub reach : Steps → ℕ → Reach
@@ -31,10 +39,17 @@ abbrev mutual
   reach (filter decision rest) n = reach rest n
   reach (rewrite rule rest) n = reach rest n
   reach (parse rule rest) n = reach rest n
-  reach (deliver drivers rest) n = record (reach rest n) { offers = n * length drivers + (reach rest n).offers }
-  reach (junction channels rest) n = onward n (reach_all channels n) (reach rest (reach_all channels n).out)
-  reach (choose choice rest) n = onward n (reach_each choice n) (reach rest (reach_each choice n).out)
-  reach (embedded logs) n = record { offers = (reach_all logs n).offers; out = n; most = max n (reach_all logs n).most }
+  reach (deliver drivers rest) n =
+      record (reach rest n) { offers = n * length drivers + (reach rest n).offers }
+  reach (junction channels rest) n =
+      onward n (reach_all channels n) (reach rest (reach_all channels n).out)
+  reach (choose choice rest) n =
+      onward n (reach_each choice n) (reach rest (reach_each choice n).out)
+  reach (embedded logs) n = record {
+    offers = (reach_all logs n).offers;
+    out = n;
+    most = max n (reach_all logs n).most;
+  }
 
   -- each sibling is reached by all
   pub reach_all : Siblings → ℕ → Reach

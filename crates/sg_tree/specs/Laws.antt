@@ -26,11 +26,13 @@ abbrev mutual
 
   pub AllStayWithin : ℕ → Siblings → Type 0
   AllStayWithin dests no_siblings = Unit {0}
-  AllStayWithin dests (sibling marks steps more) = StaysWithin dests steps × AllStayWithin dests more
+  AllStayWithin dests (sibling marks steps more) =
+      StaysWithin dests steps × AllStayWithin dests more
 
   pub EachStaysWithin : ℕ → Choice → Type 0
   EachStaysWithin dests (otherwise steps) = StaysWithin dests steps
-  EachStaysWithin dests (test decision steps more) = StaysWithin dests steps × EachStaysWithin dests more
+  EachStaysWithin dests (test decision steps more) =
+      StaysWithin dests steps × EachStaysWithin dests more
 
 abbrev pub TopsStayWithin : ℕ → List TopStatement → Type 0
 TopsStayWithin dests [] = Unit {0}

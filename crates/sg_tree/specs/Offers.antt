@@ -26,7 +26,12 @@ pub record Woods : Type 0 where
 
 abbrev pub top_view : List Expr → Path → TopStatement
 top_view named path =
-    record { sources = (out-Path path).sources.items; catchall = (out-Path path).catchall; marks = marks path; steps = own_steps named path }
+    record {
+      sources = (out-Path path).sources.items;
+      catchall = (out-Path path).catchall;
+      marks = marks path;
+      steps = own_steps named path;
+    }
 
 abbrev pub woods_of : Forest → Woods
 woods_of forest = record {
@@ -41,7 +46,8 @@ is_offered inlet top = top.catchall || list_any (λ source. source == inlet) top
 
 abbrev pub offered : ℕ → List TopStatement → Siblings
 offered inlet [] = no_siblings
-offered inlet (top ∷ tops) = if is_offered inlet top then sibling top.marks top.steps (offered inlet tops) else offered inlet tops
+offered inlet (top ∷ tops) = if is_offered inlet top
+    then sibling top.marks top.steps (offered inlet tops) else offered inlet tops
 
 -- what the top-level statements deliver of a message of an inlet
 abbrev pub deliveries_of : Woods → ℕ → Content → List Offer

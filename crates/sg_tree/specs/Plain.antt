@@ -23,7 +23,12 @@ choice_of (branch ∷ branches) other = test branch.0 (in_front branch.1 none_le
     (choice_of branches other)
 
 abbrev pub marks_of : {A B : Type 0} → Path-F A B → Marks
-marks_of path = record { is_final = path.is_final; fallback = path.fallback; flow = path.flow; drop_unmatched = path.drop_unmatched }
+marks_of path = record {
+  is_final = path.is_final;
+  fallback = path.fallback;
+  flow = path.flow;
+  drop_unmatched = path.drop_unmatched;
+}
 
 -- what stands behind the last element
 abbrev pub behind : List (Siblings → Siblings) → Steps

@@ -18,7 +18,10 @@ abbrev pub condition_of : List Expr → Option Expr → Option Decision
 condition_of named condition = option_map (decision_of named) condition
 
 abbrev pub rule_of : List Expr → RewriteRule → Rule
-rule_of named rule = record { condition = condition_of named rule.condition; change = change_of rule.op }
+rule_of named rule = record {
+  condition = condition_of named rule.condition;
+  change = change_of rule.op;
+}
 
 -- a missing condition holds
 abbrev pub passes : Option Decision → Content → Bool
@@ -26,4 +29,5 @@ passes None message = true
 passes (Some decision) message = decides decision message
 
 abbrev pub rewritten_by : Rule → Content → Content
-rewritten_by rule message = if passes rule.condition message then rewritten rule.change message else message
+rewritten_by rule message = if passes rule.condition message then rewritten rule.change message
+    else message

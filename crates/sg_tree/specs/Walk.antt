@@ -49,7 +49,11 @@ stopped = record { deliveries = []; out = []; processed = false }
 
 -- one and then the other
 abbrev pub both : WalkResult → WalkResult → WalkResult
-both a b = record { deliveries = a.deliveries ++ b.deliveries; out = a.out ++ b.out; processed = a.processed || b.processed }
+both a b = record {
+  deliveries = a.deliveries ++ b.deliveries;
+  out = a.out ++ b.out;
+  processed = a.processed || b.processed;
+}
 
 -- the rest over each message, in order
 abbrev pub each : (Content → WalkResult) → List Content → WalkResult
@@ -60,7 +64,11 @@ each rest (m ∷ ms) = both (rest m) (each rest ms)
 abbrev pub then_each : WalkResult → (Content → WalkResult) → WalkResult
 then_each first rest =
     let later = each rest first.out in
-    record { deliveries = first.deliveries ++ later.deliveries; out = later.out; processed = first.processed && later.processed }
+    record {
+      deliveries = first.deliveries ++ later.deliveries;
+      out = later.out;
+      processed = first.processed && later.processed;
+    }
 
 -- one delivery to each driver
 abbrev pub deliveries_to : List ℕ → Content → Bool → List Offer
@@ -94,9 +102,14 @@ abbrev mutual
   walk (parse rule rest) m f =
       if rule_takes rule m then walk rest (rule_parsed rule m) f else stopped
   walk (deliver drivers rest) m f = after_deliveries (deliveries_to drivers m f) (walk rest m f)
-  walk (junction channels rest) m f = then_each (two_rounds (round channels false m f) (round channels true m f)) (λ n. walk rest n f)
+  walk (junction channels rest) m f =
+      then_each (two_rounds (round channels false m f) (round channels true m f)) (λ n. walk rest n f)
   walk (choose choice rest) m f = then_each (chosen choice m f) (λ n. walk rest n f)
-  walk (embedded logs) m f = record { deliveries = (two_rounds (round logs false m f) (round logs true m f)).deliveries; out = m ∷ []; processed = true }
+  walk (embedded logs) m f = record {
+    deliveries = (two_rounds (round logs false m f) (round logs true m f)).deliveries;
+    out = m ∷ [];
+    processed = true;
+  }
 
   -- the siblings of one round in order, those with `fallback` in the second
   pub round : Siblings → Bool → Content → Bool → WalkResult
@@ -110,7 +123,8 @@ abbrev mutual
   -- the first branch whose condition holds
   pub chosen : Choice → Content → Bool → WalkResult
   chosen (otherwise steps) m f = walk steps m f
-  chosen (test decision steps more) m f = if decides decision m then walk steps m f else chosen more m f
+  chosen (test decision steps more) m f =
+      if decides decision m then walk steps m f else chosen more m f
 
 abbrev pub branches : Siblings → Content → Bool → WalkResult
 branches siblings m f = two_rounds (round siblings false m f) (round siblings true m f)

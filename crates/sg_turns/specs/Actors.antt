@@ -25,13 +25,15 @@ abbrev pub dest_seen : {O : Type 0} → (O → OutletState) → DestActor O → 
 dest_seen state a = dest_state a.outage (state a.outlet)
 
 -- the source of this number, ready for a turn
-pub record IsSource {R I : Type 0} (state : I → InletState) (inlets dests : R → ℕ) (setup : Setup) (i : ℕ) (a : SourceActor R I) : Type 0 where
+pub record IsSource {R I : Type 0} (state : I → InletState) (inlets dests : R → ℕ) (setup : Setup)
+    (i : ℕ) (a : SourceActor R I) : Type 0 where
   pub number : a.spec.inlet ≡ i
   pub fits : FitsSource setup a.spec (inlets a.router) (dests a.router)
   pub ready : IsReady (dests a.router) a.spec (source_seen state a).source
 
 -- the sources of a core, each at the place of its number
-pub record AreSources {R I : Type 0} (state : I → InletState) (inlets dests : R → ℕ) (setup : Setup) (actors : List (SourceActor R I)) : Type 0 where
+pub record AreSources {R I : Type 0} (state : I → InletState) (inlets dests : R → ℕ) (setup : Setup)
+    (actors : List (SourceActor R I)) : Type 0 where
   pub all : length actors ≡ length setup.sources
   pub each : (i : ℕ) (a : SourceActor R I) → slice_get actors i ≡ Some a
       → IsSource state inlets dests setup i a
@@ -42,12 +44,15 @@ pub record IsDest {O : Type 0} (state : O → OutletState) (d : ℕ) (a : DestAc
   pub failures : HasFailures a.outage (state a.outlet)
 
 -- the destinations of a core, each at the place of its number
-pub record AreDests {O : Type 0} (state : O → OutletState) (setup : Setup) (actors : List (DestActor O)) : Type 0 where
+pub record AreDests {O : Type 0} (state : O → OutletState) (setup : Setup)
+    (actors : List (DestActor O)) : Type 0 where
   pub all : length actors ≡ length setup.dests
   pub each : (d : ℕ) (a : DestActor O) → slice_get actors d ≡ Some a → IsDest state d a
 
 -- a source before and after a turn
-pub record SourceTakes {R I : Type 0} (state : I → InletState) (offers : R → ℕ → Record → List Offer → Type 0) (inlets dests : R → ℕ) (old new : SourceActor R I) (turn : Turn) : Type 0 where
+pub record SourceTakes {R I : Type 0} (state : I → InletState)
+    (offers : R → ℕ → Record → List Offer → Type 0) (inlets dests : R → ℕ)
+    (old new : SourceActor R I) (turn : Turn) : Type 0 where
   pub turns : SourceTurns (offers old.router) (dests old.router) old.spec (source_seen state old)
       (source_seen state new) turn
   pub router : SameRouter (offers old.router) (offers new.router) (inlets old.router)
@@ -55,7 +60,9 @@ pub record SourceTakes {R I : Type 0} (state : I → InletState) (offers : R →
   pub spec : new.spec ≡ old.spec
 
 -- a source before and after these turns
-pub record SourceTook {R I : Type 0} (state : I → InletState) (offers : R → ℕ → Record → List Offer → Type 0) (inlets dests : R → ℕ) (old new : SourceActor R I) (turns : List Turn) : Type 0 where
+pub record SourceTook {R I : Type 0} (state : I → InletState)
+    (offers : R → ℕ → Record → List Offer → Type 0) (inlets dests : R → ℕ)
+    (old new : SourceActor R I) (turns : List Turn) : Type 0 where
   pub took : TookTurns (offers old.router) (dests old.router) old.spec (source_seen state old)
       (source_seen state new) turns
   pub router : SameRouter (offers old.router) (offers new.router) (inlets old.router)
@@ -63,11 +70,13 @@ pub record SourceTook {R I : Type 0} (state : I → InletState) (offers : R → 
   pub spec : new.spec ≡ old.spec
 
 -- a destination before and after a turn
-pub record DestTakes {O : Type 0} (state : O → OutletState) (old new : DestActor O) (turn : Turn) : Type 0 where
+pub record DestTakes {O : Type 0} (state : O → OutletState) (old new : DestActor O)
+    (turn : Turn) : Type 0 where
   pub turns : DestTurns old.spec (dest_seen state old) (dest_seen state new) turn
   pub spec : new.spec ≡ old.spec
 
 -- a destination before and after these turns
-pub record DestTook {O : Type 0} (state : O → OutletState) (old new : DestActor O) (turns : List Turn) : Type 0 where
+pub record DestTook {O : Type 0} (state : O → OutletState) (old new : DestActor O)
+    (turns : List Turn) : Type 0 where
   pub took : SentTurns old.spec (dest_seen state old) (dest_seen state new) turns
   pub spec : new.spec ≡ old.spec

@@ -20,7 +20,8 @@ SourceFails offers dests spec old new turns =
 
 -- where a destination is given up for its outlet, three sends or reopenings failed since it took a frame last
 abbrev pub HasOutletFailed : DestSpec → DestState → Type 0
-HasOutletFailed spec s = s.outage.given_up ≡ Some Outlet → (spec.gives_up ≡ true) × (3 ≤ s.drain.failing)
+HasOutletFailed spec s = s.outage.given_up ≡ Some Outlet
+    → (spec.gives_up ≡ true) × (3 ≤ s.drain.failing)
 
 abbrev pub DestFails : DestSpec → DestState → DestState → List Turn → Type 0
 DestFails spec old new turns = SentTurns spec old new turns → HasOutletFailed spec old

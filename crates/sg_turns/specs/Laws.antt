@@ -22,7 +22,8 @@ use Rattle.sg_turns.specs.Serving.{AreFed, RestsLast}
 
 -- The records that were admitted are the next ones that the inlet gave, in order, each with its offers; those behind them are still to
 -- come. So many parts were given up.
-pub record ReadsOn (offers : ℕ → Record → List Offer → Type 0) (dests : ℕ) (spec : SourceSpec) (old new : ActorState) (turns : List Turn) (done : List Record) (before : ℕ) : Type 0 where
+pub record ReadsOn (offers : ℕ → Record → List Offer → Type 0) (dests : ℕ) (spec : SourceSpec)
+    (old new : ActorState) (turns : List Turn) (done : List Record) (before : ℕ) : Type 0 where
   pub taken : List Record
   pub ups : ℕ
   pub offered : AreOf offers spec taken (admitted_in (calls_of turns))
@@ -75,7 +76,8 @@ frames_of spec (turn ∷ turns) = take (settled_in turn.made) (frames_by spec (s
 -- each settled no more than it was shown
 abbrev pub AreTurnsWithin : List Turn → Type 0
 AreTurnsWithin [] = Unit {0}
-AreTurnsWithin (turn ∷ turns) = (settled_in turn.made ≤ length (shown_in turn.made)) × AreTurnsWithin turns
+AreTurnsWithin (turn ∷ turns) =
+    (settled_in turn.made ≤ length (shown_in turn.made)) × AreTurnsWithin turns
 
 -- The frames that the outlet took are those of the entries that were settled, in order.
 pub record SendsOn (spec : DestSpec) (old new : DestState) (turns : List Turn) : Type 0 where

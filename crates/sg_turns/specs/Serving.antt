@@ -56,7 +56,8 @@ pub record RestsLast (turns : List Turn) (before last : List Exchange) : Type 0 
   pub last_are : last ≡ turn.made
 
 -- behind some call each actor took one turn more, in which it did nothing
-pub record EndsQuietly (sources dests : ℕ) (made : List Exchange) (account : Caller → List Turn) : Type 0 where
+pub record EndsQuietly (sources dests : ℕ) (made : List Exchange)
+    (account : Caller → List Turn) : Type 0 where
   pub before : List Exchange
   pub last : List Exchange
   pub are : made ≡ before ++ last
@@ -64,7 +65,8 @@ pub record EndsQuietly (sources dests : ℕ) (made : List Exchange) (account : C
       → RestsLast (account who) (calls_by who before) (calls_by who last)
 
 -- All rounds were run, and an actor did something in the last one, or was idle, as one was in each round.
-pub record SpendsRounds (sources dests : ℕ) (account : Caller → List Turn) (rounds number : ℕ) : Type 0 where
+pub record SpendsRounds (sources dests : ℕ) (account : Caller → List Turn)
+    (rounds number : ℕ) : Type 0 where
   pub all : number ≡ rounds
   pub fed : (who : Caller) → IsActor sources dests who → AreFed (account who)
   pub busy : rounds ≤ busy_turns sources dests account
@@ -78,16 +80,22 @@ pub record RunsOut (sources dests : ℕ) (account : Caller → List Turn) : Type
   pub last : (who : Caller) × (IsActor sources dests who
       × ((turn : Turn) × (IsLast (account who) turn × (turn.answer ≡ None))))
 
-abbrev pub ConcludesRounds : ℕ → ℕ → List Exchange → (Caller → List Turn) → (rounds number : ℕ) → Ended
+abbrev pub ConcludesRounds : ℕ → ℕ → List Exchange → (Caller → List Turn) → (rounds number : ℕ)
+    → Ended
     → Type 0
-ConcludesRounds sources dests made account rounds number Quiet = EndsQuietly sources dests made account
-ConcludesRounds sources dests made account rounds number RoundsSpent = SpendsRounds sources dests account
+ConcludesRounds sources dests made account rounds number Quiet =
+    EndsQuietly sources dests made account
+ConcludesRounds sources dests made account rounds number RoundsSpent =
+    SpendsRounds sources dests account
     rounds number
 ConcludesRounds sources dests made account rounds number NoMemory = RunsOut sources dests account
 
 -- These calls were made, in this order. Each actor took so many turns, and of the calls it made those of its turns, in their order.
-pub record Took {A B S : Type 0} (source : A → A → List Turn → Type 0) (dest : B → B → List Turn → Type 0) (step : S → CoreCall → CoreReply → S → Type 0) (counter counter' : S)
-    (sources sources' : List A) (dests dests' : List B) (made : List Exchange) (account : Caller → List Turn) (number : ℕ) : Type 0 where
+pub record Took {A B S : Type 0} (source : A → A → List Turn → Type 0)
+    (dest : B → B → List Turn → Type 0) (step : S → CoreCall → CoreReply → S → Type 0)
+    (counter counter' : S)
+    (sources sources' : List A) (dests dests' : List B) (made : List Exchange)
+    (account : Caller → List Turn) (number : ℕ) : Type 0 where
   pub makes : Makes step counter made counter'
   pub all_sources : length sources' ≡ length sources
   pub all_dests : length dests' ≡ length dests
@@ -103,8 +111,11 @@ pub record Took {A B S : Type 0} (source : A → A → List Turn → Type 0) (de
       → length (account who) ≡ number
 
 -- A run of so many rounds at most. Nothing is said of the order of turns but that the calls of a quiet round come last.
-pub record ServesWith {A B S : Type 0} (source : A → A → List Turn → Type 0) (dest : B → B → List Turn → Type 0) (step : S → CoreCall → CoreReply → S → Type 0) (counter counter' : S)
-    (sources sources' : List A) (dests dests' : List B) (rounds : ℕ) (ended : Ended) (made : List Exchange) (account : Caller → List Turn) (number : ℕ) : Type 0 where
+pub record ServesWith {A B S : Type 0} (source : A → A → List Turn → Type 0)
+    (dest : B → B → List Turn → Type 0) (step : S → CoreCall → CoreReply → S → Type 0)
+    (counter counter' : S)
+    (sources sources' : List A) (dests dests' : List B) (rounds : ℕ) (ended : Ended)
+    (made : List Exchange) (account : Caller → List Turn) (number : ℕ) : Type 0 where
   pub took : Took source dest step counter counter' sources sources' dests dests' made account
       number
   pub few : number ≤ rounds
@@ -112,9 +123,11 @@ pub record ServesWith {A B S : Type 0} (source : A → A → List Turn → Type 
   pub lively : number ≤ busy_turns (length sources) (length dests) account + 1
   pub ends : ConcludesRounds (length sources) (length dests) made account rounds number ended
 
-abbrev pub ServesRounds : {A B S : Type 0} → (A → A → List Turn → Type 0) → (B → B → List Turn → Type 0)
+abbrev pub ServesRounds : {A B S : Type 0} → (A → A → List Turn → Type 0)
+    → (B → B → List Turn → Type 0)
     → (S → CoreCall → CoreReply → S → Type 0) → S → S → List A → List A → List B → List B → ℕ
     → Ended → Type 0
 ServesRounds source dest step counter counter' sources sources' dests dests' rounds ended =
     (made : List Exchange) × ((account : Caller → List Turn) × ((number : ℕ)
-    × ServesWith source dest step counter counter' sources sources' dests dests' rounds ended made account number))
+    × ServesWith source dest step counter counter' sources sources' dests dests' rounds ended made
+    account number))

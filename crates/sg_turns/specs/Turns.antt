@@ -37,7 +37,8 @@ abbrev pub any_step : Unit {0} → CoreCall → CoreReply → Unit {0} → Type 
 any_step old call reply new = Unit {0}
 
 -- a turn of a source, which gave up so many parts and was told this credit
-pub record SourceTurns (offers : ℕ → Record → List Offer → Type 0) (dests : ℕ) (spec : SourceSpec) (old new : ActorState) (turn : Turn) : Type 0 where
+pub record SourceTurns (offers : ℕ → Record → List Offer → Type 0) (dests : ℕ) (spec : SourceSpec)
+    (old new : ActorState) (turn : Turn) : Type 0 where
   pub ups : ℕ
   pub credit : ℕ
   pub takes : TurnsWith offers dests spec any_step (tt {0}) (tt {0}) old new (result_of turn.answer)
@@ -65,7 +66,8 @@ SendsBy None spec old new turn =
     (taken : ℕ) × ((refused : Bool) × SendsWith spec any_step (tt {0}) (tt {0}) old.outage
     new.outage old.drain new.drain (result_of turn.answer) turn.made taken refused)
 SendsBy (Some cause) spec old new turn = (turn.made ≡ [])
-    × StaysGivenUp (tt {0}) (tt {0}) old.outage new.outage old.drain new.drain (result_of turn.answer)
+    × StaysGivenUp (tt {0}) (tt {0}) old.outage new.outage old.drain new.drain
+    (result_of turn.answer)
 
 abbrev pub DestTurns : DestSpec → DestState → DestState → Turn → Type 0
 DestTurns spec old new turn = SendsBy old.outage.given_up spec old new turn

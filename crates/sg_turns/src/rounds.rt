@@ -27,7 +27,8 @@ pub fn run_rounds<T: Wait, R: Router, I: Inlet, O: Outlet, C: Settler<O>>(
     requires dests { AreDests O.state (C.setup counter.old) dests.old.items }
     requires few { AreFewActors (length sources.old.items) (length dests.old.items) }
     requires left { 768 * rounds ≤ C.left counter.old }
-    ensures serves { ServesRounds (SourceTook I.state R.offers R.inlets R.dests) (DestTook O.state) C.step
+    ensures serves { ServesRounds (SourceTook I.state R.offers R.inlets R.dests) (DestTook O.state)
+        C.step
         counter.old counter.new sources.old.items sources.new.items dests.old.items dests.new.items
         rounds result }
     ensures sources { AreSources I.state R.inlets R.dests (C.setup counter.new) sources.new.items }

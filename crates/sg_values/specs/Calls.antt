@@ -10,18 +10,22 @@ use Rattle.sg_values.specs.Settings.{missing, name_faults, hard_faults, glob_fau
 use Rattle.sg_values.specs.Patterns.{pattern_faults}
 
 abbrev pub match_faults : Call → List Placed
-match_faults call = (missing (codes "value") call ++ flat_map name_faults (args_of call)) ++ pattern_faults (args_of call)
+match_faults call = (missing (codes "value") call ++ flat_map name_faults (args_of call))
+    ++ pattern_faults (args_of call)
 
 unfoldable pub filter_faults : Call → List Placed
 filter_faults call =
     if is_called (codes "facility" ∷ []) call then flat_map (range_faults Facility) (args_of call)
-    else (if is_called (codes "level" ∷ codes "severity" ∷ codes "priority" ∷ []) call then flat_map (range_faults Level) (args_of call)
-    else (if is_called (codes "program" ∷ codes "host" ∷ codes "message" ∷ []) call then pattern_faults (args_of call)
+    else (if is_called (codes "level" ∷ codes "severity" ∷ codes "priority" ∷ []) call
+    then flat_map (range_faults Level) (args_of call)
+    else (if is_called (codes "program" ∷ codes "host" ∷ codes "message" ∷ []) call
+    then pattern_faults (args_of call)
     else (if is_called (codes "match" ∷ []) call then match_faults call
     else [])))
 
 abbrev pub named_faults : Call → List Placed
-named_faults call = (missing (codes "value") call ++ flat_map name_faults (args_of call)) ++ flat_map (hard_faults (out-Call call).word) (args_of call)
+named_faults call = (missing (codes "value") call ++ flat_map name_faults (args_of call))
+    ++ flat_map (hard_faults (out-Call call).word) (args_of call)
 
 abbrev pub subst_faults : Call → List Placed
 subst_faults call = named_faults call ++ pattern_faults (args_of call)

@@ -23,7 +23,8 @@ missing word call = missing_if (out-Call call).word
 -- a name has 1 to 255 bytes
 abbrev pub name_faults_of : Option Spot → List Placed
 name_faults_of None = []
-name_faults_of (Some spot) = if (length spot.token.text == 0) || nat_lt 255 (length spot.token.text) then bad_value spot ∷ [] else []
+name_faults_of (Some spot) = if (length spot.token.text == 0) || nat_lt 255 (length spot.token.text)
+    then bad_value spot ∷ [] else []
 
 -- what is wrong with an option, where it is called so
 abbrev pub faults_if : List ℕ → (Call → List Placed) → Option Call → List Placed
@@ -36,18 +37,22 @@ name_faults arg = faults_if (codes "value") (λ call. name_faults_of (value_of c
 -- a macro can't be set: at the rewrite's word
 abbrev pub hard_faults_of : Spot → Option Spot → List Placed
 hard_faults_of word None = []
-hard_faults_of word (Some spot) = if is_hard spot.token.text then (record { kind = HardMacro; line = spot_line word }) ∷ [] else []
+hard_faults_of word (Some spot) = if is_hard spot.token.text
+    then (record { kind = HardMacro; line = spot_line word }) ∷ [] else []
 
 abbrev pub hard_faults : Spot → Arg → List Placed
-hard_faults word arg = faults_if (codes "value") (λ call. hard_faults_of word (value_of call)) (nested_of arg)
+hard_faults word arg = faults_if (codes "value") (λ call. hard_faults_of word (value_of call))
+    (nested_of arg)
 
 -- a glob has at most 1,000 bytes
 abbrev pub long_faults_of : Option Spot → List Placed
 long_faults_of None = []
-long_faults_of (Some spot) = if nat_lt 1000 (length spot.token.text) then bad_value spot ∷ [] else []
+long_faults_of (Some spot) = if nat_lt 1000 (length spot.token.text) then bad_value spot ∷ []
+    else []
 
 abbrev pub long_faults : Arg → List Placed
 long_faults arg = long_faults_of (item_of arg)
 
 abbrev pub glob_faults : Arg → List Placed
-glob_faults arg = faults_if (codes "values") (λ call. flat_map long_faults (args_of call)) (nested_of arg)
+glob_faults arg = faults_if (codes "values") (λ call. flat_map long_faults (args_of call))
+    (nested_of arg)

@@ -3,7 +3,7 @@
 use crate::warning::{Warning, warn};
 use sg_device::NoMemory;
 use sg_lex::Token;
-use sg_listing::{Around, has_word, told_of};
+use sg_listing::{OpenBrackets, has_word, told_of};
 use sg_parse_base::is_symbol;
 use std::alloc::Global;
 
@@ -34,7 +34,7 @@ perm dir-perm|-1";
 
 // The row of the option's word in the tables of its place.
 fn harmless(
-    around: &Around,
+    around: &OpenBrackets,
     tokens: &[Token],
     object: &[u8],
     word: &[u8],
@@ -83,7 +83,7 @@ pub fn look_at_option(
     alloc: Global,
     tokens: &[Token],
     at: usize,
-    around: &Around,
+    around: &OpenBrackets,
     found: &mut Vec<Warning>,
 ) -> Result<(), NoMemory> {
     let (Some(token), Some(object)) = (tokens.get(at), around.object(tokens)) else {

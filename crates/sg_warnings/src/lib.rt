@@ -3,6 +3,7 @@
 #![tactic(auto)]
 
 mod effects;
+mod freq;
 mod looking;
 mod parsed;
 mod paths;
@@ -12,4 +13,5 @@ mod texts;
 mod unused;
 mod warning;
 
+pub use freq::stats_freq;
 pub use telling::{tell_warnings, warnings_text};

@@ -8,7 +8,7 @@ use crate::unused::look_at_names;
 use crate::warning::Warning;
 use sg_device::NoMemory;
 use sg_lex::Token;
-use sg_listing::{Around, spans};
+use sg_listing::{OpenBrackets, spans};
 use sg_parse_base::is_word;
 use std::alloc::Global;
 
@@ -16,7 +16,7 @@ fn look_at_token(
     alloc: Global,
     tokens: &[Token],
     at: usize,
-    around: &Around,
+    around: &OpenBrackets,
     names: &SetNames,
     found: &mut Vec<Warning>,
 ) -> Result<(), NoMemory> {
@@ -36,7 +36,7 @@ fn look_at_tokens(
     found: &mut Vec<Warning>,
 ) -> Result<(), NoMemory> {
     let names = set_names(alloc, tokens)?;
-    let mut around = Around::new(alloc);
+    let mut around = OpenBrackets::new(alloc);
     for at in 0..tokens.len() {
         look_at_token(alloc, tokens, at, &around, &names, found)?;
         around.pass(&tokens[at], at)?;

@@ -21,7 +21,7 @@ const TWICE: &[u8] =
 
 /// A top-level log statement.
 #[derive(Clone, Copy, Drop)]
-struct Path {
+struct LogStatement {
     span: Span,
     /// It has a filter.
     filtered: bool,
@@ -43,8 +43,8 @@ fn has(tokens: &[Token], span: Span, words: &[u8]) -> bool {
     false
 }
 
-fn path_of(tokens: &[Token], span: Span) -> Path {
-    Path {
+fn path_of(tokens: &[Token], span: Span) -> LogStatement {
+    LogStatement {
         span,
         filtered: has(tokens, span, b"filter"),
         changed: has(tokens, span, CHANGING),
@@ -60,7 +60,7 @@ fn is_log(tokens: &[Token], span: Span) -> bool {
     }
 }
 
-fn paths(alloc: Global, tokens: &[Token], spans: &[Span]) -> Result<Vec<Path>, NoMemory> {
+fn paths(alloc: Global, tokens: &[Token], spans: &[Span]) -> Result<Vec<LogStatement>, NoMemory> {
     let mut found = Vec::new(alloc);
     for span in spans {
         if found.len() < MOST && is_log(tokens, *span) {
@@ -71,7 +71,7 @@ fn paths(alloc: Global, tokens: &[Token], spans: &[Span]) -> Result<Vec<Path>, N
 }
 
 // How many tokens these have.
-fn size(paths: &[Path]) -> usize {
+fn size(paths: &[LogStatement]) -> usize {
     let mut all = 0usize;
     for path in paths {
         all = all.saturating_add(path.span.end.saturating_sub(path.span.first));
@@ -116,7 +116,7 @@ fn common(tokens: &[Token], one: Span, other: Span, word: &[u8]) -> Option<usize
 }
 
 // Whether a record of the first may come to the second as it came to the first.
-fn may_share(one: &Path, other: &Path) -> bool {
+fn may_share(one: &LogStatement, other: &LogStatement) -> bool {
     !one.changed
         && !other.changed
         && !one.last
@@ -127,8 +127,8 @@ fn may_share(one: &Path, other: &Path) -> bool {
 fn look_at_pair(
     alloc: Global,
     tokens: &[Token],
-    one: &Path,
-    other: &Path,
+    one: &LogStatement,
+    other: &LogStatement,
     found: &mut Vec<Warning>,
 ) -> Result<bool, NoMemory> {
     if !may_share(one, other) || common(tokens, one.span, other.span, b"source").is_none() {
@@ -144,8 +144,8 @@ fn look_at_pair(
 fn look_at_path(
     alloc: Global,
     tokens: &[Token],
-    before: &[Path],
-    path: &Path,
+    before: &[LogStatement],
+    path: &LogStatement,
     found: &mut Vec<Warning>,
 ) -> Result<(), NoMemory> {
     for one in before {

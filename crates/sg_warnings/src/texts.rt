@@ -5,7 +5,7 @@ use crate::warning::{Warning, warn};
 use sg_device::NoMemory;
 use sg_lex::{Token, TokenKind};
 use sg_list::Seq;
-use sg_listing::{Around, has_word};
+use sg_listing::{OpenBrackets, has_word};
 use sg_macro::{TemplateFault, TemplatePart, read_parts};
 use sg_parse_base::{is_keyword, is_name, is_symbol};
 use std::alloc::{AllocError, Global};
@@ -31,7 +31,7 @@ fn is_comparison(tokens: &[Token], at: Option<usize>) -> bool {
 }
 
 // Whether the string of this place is the path of a file that is written: with macros it is a template.
-fn is_path(tokens: &[Token], at: usize, around: &Around) -> bool {
+fn is_path(tokens: &[Token], at: usize, around: &OpenBrackets) -> bool {
     let (Some(object), Some(call)) = (around.object(tokens), before_last(tokens, at)) else {
         return false;
     };
@@ -41,12 +41,12 @@ fn is_path(tokens: &[Token], at: usize, around: &Around) -> bool {
 }
 
 // Whether the string of this place is a template.
-fn is_template(tokens: &[Token], at: usize, around: &Around) -> bool {
+fn is_template(tokens: &[Token], at: usize, around: &OpenBrackets) -> bool {
     if is_statement_text(tokens, at, around) || is_path(tokens, at, around) {
         return true;
     }
     let Some(object) = around.object(tokens) else {
-        return false;
+        return is_compared(tokens, at);
     };
     if around.is_in(tokens, 0, b"template set groupset") {
         return true;
@@ -54,8 +54,12 @@ fn is_template(tokens: &[Token], at: usize, around: &Around) -> bool {
     if around.is_in(tokens, 0, b"subst") {
         return is_second(tokens, at);
     }
-    has_word(b"filter rewrite", object)
-        && (is_comparison(tokens, at.checked_sub(1)) || is_comparison(tokens, at.checked_add(1)))
+    has_word(b"filter rewrite", object) && is_compared(tokens, at)
+}
+
+// Whether a comparison stands in front of the string of this place or behind it.
+fn is_compared(tokens: &[Token], at: usize) -> bool {
+    is_comparison(tokens, at.checked_sub(1)) || is_comparison(tokens, at.checked_add(1))
 }
 
 // Whether a string stands in front of this one, perhaps with a comma between them.
@@ -187,7 +191,7 @@ fn look_at_name(
     alloc: Global,
     tokens: &[Token],
     at: usize,
-    around: &Around,
+    around: &OpenBrackets,
     names: &SetNames,
     name: &[u8],
     found: &mut Vec<Warning>,
@@ -202,7 +206,7 @@ fn look_at_name(
 }
 
 // Whether the string of this place is the text of a statement `template NAME TEXT`.
-fn is_statement_text(tokens: &[Token], at: usize, around: &Around) -> bool {
+fn is_statement_text(tokens: &[Token], at: usize, around: &OpenBrackets) -> bool {
     match before_last(tokens, at) {
         Some(token) => around.depth() == 0 && is_keyword(token, b"template"),
         None => false,
@@ -219,7 +223,7 @@ pub fn look_at_text(
     alloc: Global,
     tokens: &[Token],
     at: usize,
-    around: &Around,
+    around: &OpenBrackets,
     names: &SetNames,
     found: &mut Vec<Warning>,
 ) -> Result<(), NoMemory> {

@@ -23,7 +23,12 @@ pub record Window : Type 0 where
 
 -- the window that these records leave
 abbrev pub window_of : ℕ → ℕ → ℕ → List BegunRecord → Window
-window_of limit begun from records = record { limit = limit; begun = begun; mark = mark_from from records; waiting = outstanding records }
+window_of limit begun from records = record {
+  limit = limit;
+  begun = begun;
+  mark = mark_from from records;
+  waiting = outstanding records;
+}
 
 -- the window of all records begun, each with the acknowledgements that it still needs, from this place on
 abbrev pub WindowStandsFor : Window → ℕ → List BegunRecord → Type 0

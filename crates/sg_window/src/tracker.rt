@@ -92,7 +92,8 @@ impl Tracker {
         requires few { self.old.begun < 2 ^ 63 }
         ensures number { result ≡ self.old.begun }
         ensures after { self.new ≡ after_begin self.old end left }
-        ensures stands { (from : ℕ) (records : List BegunRecord) → WindowStandsFor self.old from records
+        ensures stands { (from : ℕ) (records : List BegunRecord)
+            → WindowStandsFor self.old from records
             → WindowStandsFor self.new from (records ++ record { end = end; left = left } ∷ []) }
     {
         let number = self.begun;
@@ -108,7 +109,8 @@ impl Tracker {
         requires outstanding { first_waiting self.old ≤ number }
         requires owed { 0 < left_at self.old.waiting (number - first_waiting self.old) }
         ensures after { self.new ≡ after_ack self.old number }
-        ensures stands { (from : ℕ) (records : List BegunRecord) → WindowStandsFor self.old from records
+        ensures stands { (from : ℕ) (records : List BegunRecord)
+            → WindowStandsFor self.old from records
             → WindowStandsFor self.new from (change records number one_less) }
     {
         let place = (number - (self.begun - self.ring.len() as u64)) as usize;

@@ -11,7 +11,8 @@ most_records = 100000
 
 -- the number with a digit more, unless it passes the highest one
 abbrev pub with_digit : (most n : ℕ) → ℕ → Option ℕ
-with_digit most n b = if nat_le 48 b && nat_le b 57 then (if nat_le (n * 10 + (b - 48)) most then Some (n * 10 + (b - 48)) else None) else None
+with_digit most n b = if nat_le 48 b && nat_le b 57
+    then (if nat_le (n * 10 + (b - 48)) most then Some (n * 10 + (b - 48)) else None) else None
 
 abbrev pub digits_behind : ℕ → Option ℕ → List ℕ → Option ℕ
 digits_behind most None text = None

@@ -9,7 +9,7 @@ use regex::bytes::Regex;
 use sg_device::{FileRefusal, Name, NoMemory, OpenRefusal, SayRefusal};
 use sg_host::{
     HostDrain, HostFeed, HostInlets, HostOpener, HostOutlets, HostPaths, HostStore, HostStores,
-    IdleWait, Timer, read_file, say, tell,
+    IdleWait, Timer, moment, read_file, say, tell,
 };
 use sg_outside::{Files, InletSpec, Machine, OutletSpec, StoreSpec};
 use sg_pattern::{BuildFault, Builder, Patterns};
@@ -176,5 +176,9 @@ impl<T: Threads + Copy + Send> World for HostMachine<T> {
 
     fn is_due(&mut self, seconds: u32) -> bool {
         self.timer.is_due(seconds)
+    }
+
+    fn clock(&self) -> i64 {
+        moment(&self.rt)
     }
 }

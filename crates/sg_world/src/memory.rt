@@ -121,4 +121,8 @@ impl World for MemoryMachine {
     fn is_due(&mut self, _seconds: u32) -> bool {
         self.world.is_due()
     }
+
+    fn clock(&self) -> i64 {
+        self.world.pace.at
+    }
 }

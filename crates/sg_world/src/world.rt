@@ -92,4 +92,7 @@ pub trait World: Files + Builder {
     /// Nothing is claimed of it but that it changes nothing else.
     fn is_due(&mut self, seconds: u32) -> bool
         ensures { Self.state self.new ≡ Self.state self.old };
+
+    /// The time, in microseconds since 1970; 0 where the machine doesn't know it.
+    fn clock(&self) -> i64;
 }

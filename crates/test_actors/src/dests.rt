@@ -37,7 +37,7 @@ early and late failures | a b | 1 | 1 | | 0 2 | gives-up | ft1r+ fr+ fr~ ft1r+ f
 a failed store | a | | 0 | | | broken | f- - | | store";
 
 #[derive(Drop)]
-struct Row<'a> {
+struct DestRow<'a> {
     texts: &'a str,
     fails: &'a str,
     first: &'a str,
@@ -53,8 +53,8 @@ fn cell(row: &str, place: usize) -> &str {
     row.split('|').nth(place).unwrap_or("").trim()
 }
 
-fn read_row(row: &str) -> Row<'_> {
-    Row {
+fn read_row(row: &str) -> DestRow<'_> {
+    DestRow {
         texts: cell(row, 1),
         fails: cell(row, 2),
         first: cell(row, 3),
@@ -82,7 +82,7 @@ fn numbers(alloc: Global, words: &str) -> Result<Vec<u64>, Fail> {
     Ok(numbers)
 }
 
-fn outlet_script(alloc: Global, row: &Row<'_>) -> Result<OutletScript, Fail> {
+fn outlet_script(alloc: Global, row: &DestRow<'_>) -> Result<OutletScript, Fail> {
     let fails = numbers(alloc, row.fails)?;
     let laters = numbers(alloc, row.laters)?;
     let waits = numbers(alloc, row.waits)?;
@@ -212,7 +212,7 @@ fn is_cause(given_up: Option<GivenUp>, word: &str) -> bool {
 }
 
 // Whether these are the turns of the row, and the texts that were taken.
-fn took(core: &Small, outlet: &MemoryOutlet, row: &Row<'_>) -> bool {
+fn took(core: &Small, outlet: &MemoryOutlet, row: &DestRow<'_>) -> bool {
     core.log.trim_ascii() == row.turns.as_bytes()
         && outlet.frames().bytes().trim_ascii() == row.taken.as_bytes()
 }
@@ -223,7 +223,7 @@ fn goes<T: Wait>(
     alloc: Global,
     actor: DestActor<MemoryOutlet>,
     core: &mut Small,
-    row: &Row<'_>,
+    row: &DestRow<'_>,
 ) -> bool
     requires dest { actor.spec.dest < length core.old.setup.dests }
     requires failures { HasFailures actor.outage (outlet_of actor.outlet) }
@@ -235,7 +235,7 @@ fn goes<T: Wait>(
     done && took(core, &outlet, row) && is_cause(given_up, row.cause)
 }
 
-fn shows<T: Wait>(rt: &T, alloc: Global, row: &Row<'_>) -> Result<bool, Fail> {
+fn shows<T: Wait>(rt: &T, alloc: Global, row: &DestRow<'_>) -> Result<bool, Fail> {
     let script = outlet_script(alloc, row)?;
     let mut core = core(alloc, row.texts, row.how == "broken")?;
     let actor = dest(alloc, script, row.how == "gives-up")?;

@@ -54,7 +54,7 @@ slot counted ends
 slot counted idle";
 
 #[derive(Drop)]
-struct Row<'a> {
+struct SourceRow<'a> {
     how: &'a str,
     fetch: &'a str,
     window: &'a str,
@@ -67,8 +67,8 @@ fn cell(row: &str, place: usize) -> &str {
     row.split('|').nth(place).unwrap_or("").trim()
 }
 
-fn read_row(row: &str) -> Row<'_> {
-    Row {
+fn read_row(row: &str) -> SourceRow<'_> {
+    SourceRow {
         how: cell(row, 1),
         fetch: cell(row, 2),
         window: cell(row, 3),
@@ -157,7 +157,7 @@ fn setup(alloc: Global, stored: bool) -> Result<Setup, NoMemory>
     Ok(Setup { sources, dests })
 }
 
-fn core(alloc: Global, row: &Row<'_>, stored: bool) -> Result<Small, Fail>
+fn core(alloc: Global, row: &SourceRow<'_>, stored: bool) -> Result<Small, Fail>
     ensures sources { IfOk result (λ core. length core.setup.sources ≡ 1) }
     ensures dests { IfOk result (λ core. length core.setup.dests ≡ 1) }
     ensures store { IfOk result (λ core. is_some (store_in core.setup.sources 0) ≡ stored) }
@@ -197,7 +197,7 @@ fn kind(how: &str) -> FrameKind {
 
 fn source(
     alloc: Global,
-    row: &Row<'_>,
+    row: &SourceRow<'_>,
     fetch: u32,
     stored: bool,
     core: &Small,
@@ -277,7 +277,7 @@ fn goes<T: Wait>(
     alloc: Global,
     actor: SourceActor<Plain, MemoryInlet>,
     core: &mut Small,
-    row: &Row<'_>,
+    row: &SourceRow<'_>,
 ) -> bool
     requires fits { FitsSource core.old.setup actor.spec 1 1 }
     requires ready { IsReady 1 actor.spec
@@ -293,7 +293,7 @@ fn goes<T: Wait>(
         && core.log.trim_ascii() == row.turns.as_bytes()
 }
 
-fn shows<T: Wait>(rt: &T, alloc: Global, row: &Row<'_>) -> Result<bool, Fail> {
+fn shows<T: Wait>(rt: &T, alloc: Global, row: &SourceRow<'_>) -> Result<bool, Fail> {
     let Some(fetch) = fetch_of(row.fetch) else {
         return Ok(false);
     };

@@ -19,7 +19,8 @@ impl Office for Till {
 
     type Reply = u64;
 
-    ghost step = { λ old call reply new. (reply ≡ old.sum) × (new.sum ≡ (old.sum + call) % 2 ^ 64) };
+    ghost step = { λ old call reply new. (reply ≡ old.sum)
+        × (new.sum ≡ (old.sum + call) % 2 ^ 64) };
 
     ghost may = { λ till call. call < 256 };
 

@@ -27,7 +27,7 @@ mod resolve;
 mod rows;
 mod text;
 
-use rows::{Area, Row, read_row};
+use rows::{Area, ConfigurationRow, read_row};
 use sg_lex::{TEXT_LIMIT, Token, tokens};
 use sg_parse_text::{Statement, statements};
 use std::alloc::Global;
@@ -68,7 +68,7 @@ fn of_tokens(alloc: Global, area: Area, is_long: bool, tokens: &[Token]) -> io::
     }
 }
 
-fn of_row(alloc: Global, row: &Row) -> io::Result<Vec<u8>> {
+fn of_row(alloc: Global, row: &ConfigurationRow) -> io::Result<Vec<u8>> {
     if row.text.len() > TEXT_LIMIT {
         return copied(alloc, b"too long");
     }

@@ -17,7 +17,7 @@ pub enum Area {
 }
 
 #[derive(Drop)]
-pub struct Row {
+pub struct ConfigurationRow {
     pub area: Area,
     pub text: Vec<u8>,
     /// Whether it is made of many pieces.
@@ -93,9 +93,14 @@ fn long(alloc: Global, count: u32, head: &str, piece: &str, tail: &str) -> io::R
     Ok(out)
 }
 
-fn row_of(alloc: Global, area: Area, text: &[u8], is_long: bool) -> io::Result<Option<Row>> {
+fn row_of(
+    alloc: Global,
+    area: Area,
+    text: &[u8],
+    is_long: bool,
+) -> io::Result<Option<ConfigurationRow>> {
     let text = broken(alloc, text, mark_of(area, is_long))?;
-    Ok(Some(Row {
+    Ok(Some(ConfigurationRow {
         area,
         text,
         is_long,
@@ -103,7 +108,12 @@ fn row_of(alloc: Global, area: Area, text: &[u8], is_long: bool) -> io::Result<O
 }
 
 // A row of a text of so many pieces; none where its parts aren't there.
-fn long_row(alloc: Global, area: Area, count: u32, parts: &str) -> io::Result<Option<Row>> {
+fn long_row(
+    alloc: Global,
+    area: Area,
+    count: u32,
+    parts: &str,
+) -> io::Result<Option<ConfigurationRow>> {
     let Some((head, piece, tail)) = parts_of(parts) else {
         return Ok(None);
     };
@@ -122,7 +132,7 @@ fn counted(text: &str) -> Option<(u32, &str)> {
     }
 }
 
-fn read_text(alloc: Global, area: Area, text: &str) -> io::Result<Option<Row>> {
+fn read_text(alloc: Global, area: Area, text: &str) -> io::Result<Option<ConfigurationRow>> {
     match counted(text) {
         Some((count, parts)) => long_row(alloc, area, count, parts),
         None => row_of(alloc, area, text.as_bytes(), false),
@@ -130,7 +140,7 @@ fn read_text(alloc: Global, area: Area, text: &str) -> io::Result<Option<Row>> {
 }
 
 /// The row of a line, where it is understood.
-pub(crate) fn read_row(alloc: Global, line: &str) -> io::Result<Option<Row>> {
+pub(crate) fn read_row(alloc: Global, line: &str) -> io::Result<Option<ConfigurationRow>> {
     let Some((word, text)) = line.split_once(' ') else {
         return Ok(None);
     };

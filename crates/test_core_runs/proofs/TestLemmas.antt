@@ -1,6 +1,5 @@
 -- The core that is tried, and what is brought to it.
-use Rattle.std.proofs.Common.{◌≡◌, ◌⊎◌, ℕ, ◌+◌, ◌<◌, ◌≤◌, ◌^◌, List, [], ◌∷◌, ◌++◌, length, Some, None, Option, IsSome, refl, sym, ap, ◌∙◌, arith, suc, zero, inl, inr, slice_get, subst, map}
-use Rattle.sg_msg.specs.declared.offer.Offer.{Offer}
+use Rattle.std.proofs.Common.{◌≡◌, ◌⊎◌, ℕ, ◌+◌, ◌<◌, ◌≤◌, ◌^◌, List, [], ◌∷◌, length, Some, None, Option, IsSome, refl, sym, ap, ◌∙◌, arith, suc, zero, inl, inr, slice_get, subst, map}
 use Rattle.sg_machine.specs.declared.event.Act.{Act}
 use Rattle.sg_machine.specs.declared.state.Dest.{Dest}
 use Rattle.sg_machine.specs.declared.state.InletRecords.{InletRecords}
@@ -11,7 +10,6 @@ use Rattle.sg_machine.specs.Effects.{after_act}
 use Rattle.sg_machine.specs.Runs.{opened}
 use Rattle.sg_machine.specs.Tallies.{source_tally, source_tallies, tally_of}
 use Rattle.sg_machine.specs.declared.event.Admission.{Admission}
-use Rattle.sg_machine.specs.declared.setup.BufferSetup.{BufferSetup}
 use Rattle.sg_machine.specs.declared.setup.DestSetup.{DestSetup}
 use Rattle.sg_machine.specs.declared.setup.Setup.{Setup}
 use Rattle.sg_counter.specs.Bringing.{MayEnter, AllMayEnter, IsBatch, store_in}
@@ -26,7 +24,7 @@ use Rattle.sg_standing.specs.Standing.{DoesAct, IsAt, source_of, sources_from}
 use Rattle.sg_standing.specs.declared.source.Source.{Source}
 use Rattle.sg_machine.specs.declared.setup.SourceSetup.{SourceSetup}
 use Rattle.test_core_runs.specs.Cores.{three_sources, three_dests, tried, IsTried, IsSomewhere}
-use Rattle.sg_msg.specs.Offers.{AllWithin}
+use Rattle.sg_machine.proofs.BufferLemmas.{within-some}
 
 source-store : (w i s : ℕ) → store_in (three_sources w) i ≡ Some s → (s ≡ i) × (i < 3)
 source-store w zero s p = let e : Some 0 ≡ Some s = p in let f : 0 ≡ s = cc in (sym f, omega arith)
@@ -66,11 +64,6 @@ tried-numbers w f a b = record {
 pub tried-windows : (w : ℕ) → 0 < w → HaveWindows (three_sources w)
 tried-windows w h = (h, (h, (h, tt)))
 
-within-some : (n most s : ℕ) (buffer : BufferSetup) → Some (record { store = s; capacity = n }) ≡ Some buffer → n ≤ most → buffer.capacity ≤ most
-within-some n most s buffer h le =
-    let is : record { store = s; capacity = n } ≡ buffer = cc in
-    subst (λ (x : BufferSetup). x.capacity ≤ most) is le
-
 pub tried-capacities : (f a b : ℕ) → a ≤ 2 ^ 30 → b ≤ 2 ^ 30 → HaveCapacities (three_dests f a b)
 tried-capacities f a b h k zero setup buffer get has =
     let e : Some (record { fifo = f; buffer = Some (record { store = 3; capacity = a }) }) ≡ Some setup = get in
@@ -91,14 +84,6 @@ tried-stores w zero l = refl
 tried-stores w (suc zero) l = refl
 tried-stores w (suc (suc zero)) l = refl
 tried-stores w (suc (suc (suc i))) l = absurd (omega (arith, l))
-
-pub within_push : (n : ℕ) (os : List Offer) (o : Offer) → AllWithin n os → o.dest < n → AllWithin n (os ++ o ∷ [])
-within_push n [] o h l = (l, tt)
-within_push n (p ∷ os) o h l = (h.0, within_push n os o h.1 l)
-
-pub enter_push : (n : ℕ) (rs : List Admission) (r : Admission) → AllMayEnter n rs → r.end < 2 ^ 63 → length r.offers ≤ 1024 → AllWithin n r.offers → AllMayEnter n (rs ++ r ∷ [])
-enter_push n [] r h end few within = (record { end = end; few = few; dests = within }, tt)
-enter_push n (q ∷ rs) r h end few within = (h.0, enter_push n rs r h.1 end few within)
 
 -- a core of such a setup has three sources and destinations, and the stores of the sources
 

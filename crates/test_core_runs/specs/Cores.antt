@@ -9,17 +9,20 @@ use Rattle.sg_standing.specs.Standing.{IsAt}
 
 abbrev pub three_sources : ℕ → List SourceSetup
 three_sources window =
-    record { window = window; store = Some 0 } ∷ record { window = window; store = Some 1 } ∷ record { window = window; store = Some 2 } ∷ []
+    record { window = window; store = Some 0 } ∷ record { window = window; store = Some 1 }
+    ∷ record { window = window; store = Some 2 } ∷ []
 
 abbrev pub three_dests : ℕ → ℕ → ℕ → List DestSetup
 three_dests fifo first second =
-    record { fifo = fifo; buffer = Some (record { store = 3; capacity = first }) } ∷ record { fifo = fifo; buffer = None }
+    record { fifo = fifo; buffer = Some (record { store = 3; capacity = first }) }
+    ∷ record { fifo = fifo; buffer = None }
     ∷ record { fifo = fifo; buffer = Some (record { store = 4; capacity = second }) } ∷ []
 
 -- three sources with stores of their own, and three destinations, of which the second is a queue in memory and the others have
 -- disk-buffers of these capacities
 abbrev pub tried : ℕ → ℕ → ℕ → ℕ → Setup
-tried window fifo first second = record { sources = three_sources window; dests = three_dests fifo first second }
+tried window fifo first second =
+    record { sources = three_sources window; dests = three_dests fifo first second }
 
 -- a core of such a setup
 abbrev pub IsTried : CoreState → Type 0

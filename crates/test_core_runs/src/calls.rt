@@ -4,7 +4,6 @@ ghost use Rattle.sg_counter.specs.Bringing.{AllMayEnter, store_in};
 ghost use Rattle.sg_msg.specs.Offers.{AllWithin};
 
 use crate::cores::{SECOND, add_offer, add_record, disks, open};
-use crate::told::{Teller, told};
 use sg_counter::{Counter, Settler};
 use sg_machine::Admission;
 use sg_memory_disk::{DiskChange, MemoryDisk};
@@ -12,7 +11,8 @@ use sg_msg::Offer;
 use std::alloc::{AllocError, Global};
 use std::sync::Wait;
 use test_replies::{
-    ReplyText, put_admitted, put_front, put_number, put_refilled, put_settled, put_stored,
+    ReplyText, Teller, is_call, number, put_admitted, put_front, put_number, put_refilled,
+    put_settled, put_stored, told,
 };
 
 // A row has what is shown; the windows; how many entries without flow-control the queue takes; the capacity of
@@ -20,20 +20,10 @@ use test_replies::{
 // syncs each store has made.
 //
 // Sources 0 to 2 have the position stores 0 to 2. Destination 0 has a disk-buffer in store 3, destination 2
-// one of 400 bytes in store 4, destination 1 is a queue in memory. Each call begins with a word: a0 an
-// admit of source 0, behind which stand r9, a record that ends at 9, and d1f100, its offer to destination
-// 1 with flow-control (n without) of 100 encoded bytes. It answers the verdicts Q, S, W, F and D, or
-// for lack of credit - and how many records came back. f0,5 is the front of destination 0, at most 5 entries: the first's place and their number, or
-// e where none is left. s0,1,2 settles 2 from place 1 on: k, or - where that isn't the front. m0 is a
-// refill: how many moved, - where none waits, o where the first doesn't fit. p0 stores the position of
-// source 0, c0 tells its credit. A store that has failed answers x.
-
-fn number(word: Option<&str>) -> u32 {
-    match word {
-        Some(word) => word.parse().unwrap_or(u32::MAX),
-        None => u32::MAX,
-    }
-}
+// one of 400 bytes in store 4, destination 1 is a queue in memory. How calls are written stands at `is_call`. An
+// admit answers the verdicts Q, S, W, F and D, or for lack of credit - and how many records came back; a front the
+// first's place and their number, or e where none is left; a settle k, or - where that isn't the front; a refill
+// how many moved, - where none waits, o where the first doesn't fit. A store that has failed answers x.
 
 // The offer of a word as d1f100, behind its d.
 fn offer_word(alloc: Global, offers: &mut Vec<Offer>, word: &str) -> Result<(), AllocError>
@@ -189,65 +179,9 @@ fn put_syncs(out: &mut ReplyText, disks: &[MemoryDisk]) {
     }
 }
 
-// Whether these are so many numbers.
-fn are_numbers(text: &str, count: usize) -> bool {
-    for word in text.split(',') {
-        if word.parse::<u32>().is_err() {
-            return false;
-        }
-    }
-    text.split(',').count() == count
-}
-
-fn is_size(word: &str) -> bool {
-    match word.parse::<u32>() {
-        Ok(size) => size <= 1 << 30,
-        Err(_) => false,
-    }
-}
-
-// Whether it is the end of a record, or an offer.
-fn is_entry(word: &str) -> bool {
-    if let Some(end) = word.strip_prefix('r') {
-        return are_numbers(end, 1);
-    }
-    let Some(offer) = word.strip_prefix('d') else {
-        return false;
-    };
-    match offer.split_once(if offer.contains('f') { 'f' } else { 'n' }) {
-        Some((dest, size)) => matches!(dest, "0" | "1" | "2") && is_size(size),
-        None => false,
-    }
-}
-
-// Whether these are records, the first one first.
-fn are_records(text: &str) -> bool {
-    for word in text.split_whitespace() {
-        if !is_entry(word) {
-            return false;
-        }
-    }
-    text.starts_with('r')
-}
-
-// Whether these words are a call.
-fn is_call(text: &str) -> bool {
-    let (first, rest) = text.split_once(' ').unwrap_or((text, ""));
-    let (letter, numbers) = first.split_at_checked(1).unwrap_or(("", ""));
-    match letter {
-        "a" => are_numbers(numbers, 1) && are_records(rest),
-        "m" => are_numbers(numbers, 1) && rest.is_empty(),
-        "p" => are_numbers(numbers, 1) && rest.is_empty(),
-        "c" => are_numbers(numbers, 1) && rest.is_empty(),
-        "f" => are_numbers(numbers, 2) && rest.is_empty(),
-        "s" => are_numbers(numbers, 3) && rest.is_empty(),
-        _ => false,
-    }
-}
-
 fn are_calls(text: &str) -> bool {
     for part in text.split('/') {
-        if !is_call(part.trim()) {
+        if !is_call(part.trim(), 3) {
             return false;
         }
     }
@@ -256,16 +190,16 @@ fn are_calls(text: &str) -> bool {
 
 // A row's setup, and its calls.
 #[derive(Clone, Copy, Drop)]
-struct AskedCore<'a> {
+struct CoreRow<'a> {
     window: u32,
     fifo: u32,
     capacity: u32,
     text: &'a str,
 }
 
-fn words_of(row: &str) -> AskedCore<'_> {
+fn words_of(row: &str) -> CoreRow<'_> {
     let mut parts = row.split('|').skip(1);
-    AskedCore {
+    CoreRow {
         window: number(Some(parts.next().unwrap_or("").trim())),
         fifo: number(Some(parts.next().unwrap_or("").trim())),
         capacity: number(Some(parts.next().unwrap_or("").trim())),
@@ -273,7 +207,7 @@ fn words_of(row: &str) -> AskedCore<'_> {
     }
 }
 
-fn answers<T: Wait>(rt: &T, alloc: Global, asked: AskedCore<'_>) -> Result<Vec<u8>, AllocError> {
+fn answers<T: Wait>(rt: &T, alloc: Global, asked: CoreRow<'_>) -> Result<Vec<u8>, AllocError> {
     if asked.window == 0 || asked.capacity > 1 << 30 {
         return Vec::from_slice(alloc, b"no such setup");
     }

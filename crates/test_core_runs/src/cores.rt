@@ -136,7 +136,7 @@ pub(crate) fn offer(
 }
 
 /// An offer more to that destination, with this flow-control, of so many encoded bytes; the message has this number.
-#[tactic(auto, using(crate::proofs::TestLemmas::within_push))]
+#[tactic(auto, using(sg_msg::proofs::OfferLemmas::within_push))]
 pub(crate) fn add_offer(
     alloc: Global,
     offers: &mut Vec<Offer>,
@@ -155,7 +155,7 @@ pub(crate) fn add_offer(
 }
 
 /// A record more, with these offers.
-#[tactic(auto, using(crate::proofs::TestLemmas::enter_push))]
+#[tactic(auto, using(sg_counter::proofs::BringingLemmas::enter_push))]
 pub(crate) fn add_record(
     records: &mut Vec<Admission>,
     end: u64,

@@ -20,7 +20,7 @@ pub(crate) fn short(place: usize) -> u32 {
 /// An offer of a run. Its message has its number as the moment it was sent, and a text of bytes that are all its
 /// number.
 #[derive(Clone, Copy, Debug, PartialEq, Eq, Drop)]
-pub(crate) struct Made {
+pub(crate) struct MadeOffer {
     pub(crate) source: u32,
     /// The end of its record.
     pub(crate) end: u64,
@@ -33,10 +33,10 @@ pub(crate) struct Made {
 }
 
 /// The same offers, for a core that opens again: it knows those that it finds, and no record that they came from.
-pub(crate) fn left_behind(alloc: Global, made: &[Made]) -> Result<Vec<Made>, AllocError> {
+pub(crate) fn left_behind(alloc: Global, made: &[MadeOffer]) -> Result<Vec<MadeOffer>, AllocError> {
     let mut left = Vec::new(alloc);
     for offer in made {
-        left.push(Made {
+        left.push(MadeOffer {
             flow: false,
             ..*offer
         })?;
@@ -49,10 +49,10 @@ fn draw_record(
     draws: &mut Draws,
     source: u32,
     end: u64,
-    made: &mut Vec<Made>,
+    made: &mut Vec<MadeOffer>,
 ) -> Result<(), AllocError> {
     for _offer in 0..draws.below(4) {
-        let offer = Made {
+        let offer = MadeOffer {
             source,
             end,
             dest: draws.below(3) as u32,
@@ -71,7 +71,7 @@ pub(crate) fn draw_records(
     draws: &mut Draws,
     source: u32,
     end: u64,
-    made: &mut Vec<Made>,
+    made: &mut Vec<MadeOffer>,
 ) -> Result<u64, AllocError>
     requires { end < 2 ^ 32 }
     ensures some { IfOk result (λ count. 0 < count) }
@@ -89,7 +89,7 @@ fn add_made(
     alloc: Global,
     offers: &mut Vec<Offer>,
     number: u32,
-    made: &Made,
+    made: &MadeOffer,
 ) -> Result<(), AllocError>
     requires within { AllWithin 3 offers.old.items }
     ensures within { OnOk result (AllWithin 3 offers.new.items) }
@@ -102,7 +102,12 @@ fn add_made(
 }
 
 // The offers of the record that ends there, among those from that number on.
-fn offers_of(alloc: Global, made: &[Made], first: usize, end: u64) -> Result<Vec<Offer>, AllocError>
+fn offers_of(
+    alloc: Global,
+    made: &[MadeOffer],
+    first: usize,
+    end: u64,
+) -> Result<Vec<Offer>, AllocError>
     ensures within { IfOk result (λ offers. AllWithin 3 offers.items) }
     ensures few { IfOk result (λ offers. length offers.items ≤ 1024) }
 {
@@ -118,7 +123,7 @@ fn offers_of(alloc: Global, made: &[Made], first: usize, end: u64) -> Result<Vec
 /// The records with these ends, with the offers from that number on.
 pub(crate) fn records_of(
     alloc: Global,
-    made: &[Made],
+    made: &[MadeOffer],
     first: usize,
     end: u64,
     count: u64,
@@ -143,7 +148,7 @@ fn is_text(text: &[u8], number: u32, size: usize) -> bool {
 }
 
 /// The number of a message, or `NONE` where it isn't that of an offer that was made.
-pub(crate) fn number_of(made: &[Made], message: &Message) -> u32 {
+pub(crate) fn number_of(made: &[MadeOffer], message: &Message) -> u32 {
     let at = message.sent().at;
     if at < 0 || at >= 1 << 32 {
         return NONE;
@@ -161,7 +166,7 @@ pub(crate) fn number_of(made: &[Made], message: &Message) -> u32 {
 /// The numbers of messages.
 pub(crate) fn numbers_of(
     alloc: Global,
-    made: &[Made],
+    made: &[MadeOffer],
     messages: &[Message],
 ) -> Result<Vec<u32>, AllocError> {
     let mut numbers = Vec::new(alloc);

@@ -3,7 +3,7 @@ ghost use Rattle.std.specs.Prelude.{◌≡◌, ◌≤◌, ◌<◌, ◌+◌, ◌^
 ghost use Rattle.test_core_runs.specs.Cores.{IsTried};
 
 use crate::cores::{FIFO, FIRST, SECOND, WINDOW, open};
-use crate::entries::{Made, numbers_of, short};
+use crate::entries::{MadeOffer, numbers_of, short};
 use crate::lines::DestLine;
 use crate::openings::OpenedCore;
 use crate::runs::{EndedRun, Positions};
@@ -76,7 +76,7 @@ fn found(
     alloc: Global,
     core: &mut Core<MemoryDisk>,
     d: u32,
-    made: &[Made],
+    made: &[MadeOffer],
 ) -> Result<Option<Vec<u32>>, AllocError>
     requires tried { IsTried core.old }
     requires dest { d < 3 }
@@ -98,7 +98,7 @@ fn found(
 
 // Whether each offer with flow-control to this destination of a record at or below its source's position is
 // settled, or in the list.
-fn covers(made: &[Made], d: u32, list: &[u32], positions: &[u64; 3]) -> bool {
+fn covers(made: &[MadeOffer], d: u32, list: &[u32], positions: &[u64; 3]) -> bool {
     for number in 0..made.len() {
         let offer = made[number];
         if offer.dest == d && offer.flow && !offer.settled && offer.source < 3 {
@@ -119,7 +119,7 @@ fn may_be(positions: Positions, found: u64) -> bool {
 fn find(
     alloc: Global,
     core: &mut Core<MemoryDisk>,
-    made: &[Made],
+    made: &[MadeOffer],
 ) -> Result<Option<OpenedCore>, AllocError>
     requires tried { IsTried core.old }
     requires calls { core.old.calls ≡ 0 }

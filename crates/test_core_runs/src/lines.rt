@@ -1,5 +1,5 @@
 // What a destination of a run must have: the numbers of its entries, kept from the answers of the calls alone.
-use crate::entries::{Made, short};
+use crate::entries::{MadeOffer, short};
 use sg_machine::Verdict;
 use std::alloc::{AllocError, Global};
 use std::collections::VecDeque;
@@ -60,7 +60,7 @@ impl DestLine {
     }
 
     /// The first n entries that are left are settled.
-    pub(crate) fn settle(&mut self, n: u32, made: &mut [Made]) {
+    pub(crate) fn settle(&mut self, n: u32, made: &mut [MadeOffer]) {
         for _entry in 0..n {
             if let Some(number) = self.settle_one() {
                 if (number as usize) < made.len() {
@@ -108,7 +108,7 @@ impl DestLine {
     pub(crate) fn would_spool(
         &self,
         alloc: Global,
-        made: &[Made],
+        made: &[MadeOffer],
         first: usize,
         dest: u32,
         capacity: u64,
@@ -157,7 +157,7 @@ impl DestLine {
 }
 
 // What these entries take of a disk-buffer.
-fn used(made: &[Made], numbers: &[u32]) -> u64 {
+fn used(made: &[MadeOffer], numbers: &[u32]) -> u64 {
     let mut used = 0u64;
     for number in numbers {
         if let Some(offer) = made.get(*number as usize) {

@@ -27,7 +27,6 @@ mod openings;
 mod rows;
 mod runs;
 mod steps;
-mod told;
 
 use std::alloc::{AllocError, Global};
 use std::io;

@@ -3,7 +3,7 @@ ghost use Rattle.std.specs.Prelude.{◌≡◌, ◌≤◌, ◌<◌, ◌+◌, ◌^
 ghost use Rattle.test_core_runs.specs.Cores.{IsTried};
 
 use crate::cores::{FIFO, FIRST, SECOND, WINDOW, disks, open};
-use crate::entries::Made;
+use crate::entries::MadeOffer;
 use crate::images::{images, picks};
 use crate::lines::DestLine;
 use crate::openings::OpenedCore;
@@ -102,7 +102,7 @@ pub(crate) fn over_older(alloc: Global, count: u32) -> Result<EndedRun, AllocErr
     let mut made = Vec::new(alloc);
     let mut numbers = Vec::new(alloc);
     for number in 0..count {
-        made.push(Made {
+        made.push(MadeOffer {
             source: 0,
             end: 0,
             dest: 0,

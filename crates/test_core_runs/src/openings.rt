@@ -2,7 +2,7 @@
 ghost use Rattle.std.specs.Prelude.{◌<◌};
 
 use crate::cores::offer;
-use crate::entries::Made;
+use crate::entries::MadeOffer;
 use crate::lines::DestLine;
 use sg_list::Seq;
 use sg_machine::{Act, Admission, Event, Verdict};
@@ -32,7 +32,7 @@ fn add_offer(
     alloc: Global,
     offers: &mut Vec<Offer>,
     number: u32,
-    made: &Made,
+    made: &MadeOffer,
 ) -> Result<(), AllocError> {
     offers.push(offer(alloc, made.dest, number, made.size, false)?)?;
     Ok(())
@@ -41,7 +41,7 @@ fn add_offer(
 // Offers without flow-control, which the disk-buffer takes.
 fn add_line(
     alloc: Global,
-    made: &[Made],
+    made: &[MadeOffer],
     numbers: &[u32],
     offers: &mut Vec<Offer>,
     verdicts: &mut Vec<Verdict>,
@@ -77,7 +77,7 @@ fn admit(
 // A record of source 0 brings the entries that are found.
 fn add_entries(
     alloc: Global,
-    made: &[Made],
+    made: &[MadeOffer],
     lines: &[DestLine; 3],
     events: &mut Vec<Event>,
 ) -> Result<(), AllocError> {
@@ -110,7 +110,7 @@ fn add_place(
 /// The events over fresh stores that lead to what is found: one for the entries, and two for each source.
 pub(crate) fn events_of(
     alloc: Global,
-    made: &[Made],
+    made: &[MadeOffer],
     found: &OpenedCore,
 ) -> Result<Vec<Event>, AllocError> {
     let mut events = Vec::new(alloc);

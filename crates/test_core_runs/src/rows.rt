@@ -20,7 +20,7 @@ const FROM: u64 = 20_000;
 
 // What the runs of a row told.
 #[derive(Drop)]
-struct Sums {
+struct RunSums {
     runs: u64,
     refused: u64,
     more: u64,
@@ -33,9 +33,9 @@ struct Sums {
     differs: Option<(u64, u64)>,
 }
 
-impl Sums {
-    fn new() -> Sums {
-        Sums {
+impl RunSums {
+    fn new() -> RunSums {
+        RunSums {
             runs: 0,
             refused: 0,
             more: 0,
@@ -153,7 +153,7 @@ fn stop_one(disks: &mut Vec<MemoryDisk>, draws: &mut Draws)
 // So many steps of a run over these disks, in which that is found of the run before.
 fn go_on(
     alloc: Global,
-    sums: &mut Sums,
+    sums: &mut RunSums,
     number: u64,
     before: &EndedRun,
     found: OpenedCore,
@@ -181,7 +181,7 @@ fn go_on(
 // many steps.
 fn again(
     alloc: Global,
-    sums: &mut Sums,
+    sums: &mut RunSums,
     number: u64,
     ended: &EndedRun,
     disks: &[MemoryDisk],
@@ -205,7 +205,7 @@ fn again(
 // A run of that number over these disks, and what a crash leaves at its end, over which more steps go on.
 fn one(
     alloc: Global,
-    sums: &mut Sums,
+    sums: &mut RunSums,
     number: u64,
     disks: Vec<MemoryDisk>,
     begun: EndedRun,
@@ -225,7 +225,7 @@ fn one(
 // A run that begins over these fresh stores.
 fn one_fresh(
     alloc: Global,
-    sums: &mut Sums,
+    sums: &mut RunSums,
     number: u64,
     disks: Vec<MemoryDisk>,
     seed: u64,
@@ -260,7 +260,7 @@ pub(crate) fn runs(alloc: Global, row: &str) -> Result<Vec<u8>, AllocError> {
         brief: false,
         more: asked[3],
     };
-    let mut sums = Sums::new();
+    let mut sums = RunSums::new();
     for k in 0..asked[1] {
         let disks = disks(alloc)?;
         let seed = asked[0].wrapping_add(k);
@@ -275,7 +275,7 @@ pub(crate) fn moments(alloc: Global, row: &str) -> Result<Vec<u8>, AllocError> {
         return not_understood(alloc);
     }
     let asked = numbers(row);
-    let mut sums = Sums::new();
+    let mut sums = RunSums::new();
     for steps in 0..asked[1].min(MOST) {
         let disks = disks(alloc)?;
         let extent = Extent {
@@ -333,7 +333,7 @@ fn failing_disks(
 // A run in which the store fails behind so many calls.
 fn one_failing(
     alloc: Global,
-    sums: &mut Sums,
+    sums: &mut RunSums,
     call: u64,
     failing: Failing<'_>,
     seed: u64,
@@ -354,7 +354,7 @@ fn all_failing(
         brief: true,
         ..extent
     };
-    let mut sums = Sums::new();
+    let mut sums = RunSums::new();
     for call in 0..calls {
         let seed = seed.wrapping_add(call);
         one_failing(alloc, &mut sums, call, failing, seed, extent)?;
@@ -387,7 +387,7 @@ pub(crate) fn failures(alloc: Global, row: &str, stops: bool) -> Result<Vec<u8>,
 // A run over a disk-buffer of these bytes and so many entries, whose store stops behind so many calls.
 fn one_older(
     alloc: Global,
-    sums: &mut Sums,
+    sums: &mut RunSums,
     call: u64,
     parts: &str,
     count: u32,
@@ -414,7 +414,7 @@ pub(crate) fn older(alloc: Global, row: &str) -> Result<Vec<u8>, AllocError> {
         brief: false,
         more: asked[3],
     };
-    let mut sums = Sums::new();
+    let mut sums = RunSums::new();
     for call in 0..asked[1] {
         let seed = asked[0].wrapping_add(call);
         one_older(alloc, &mut sums, call, parts, count, seed, extent)?;

@@ -5,7 +5,7 @@ ghost use Rattle.test_core_runs.specs.Cores.{IsTried, IsSomewhere};
 
 use crate::cores::{FIRST, SECOND};
 use crate::draws::Draws;
-use crate::entries::{Made, draw_records, left_behind, numbers_of, records_of, short};
+use crate::entries::{MadeOffer, draw_records, left_behind, numbers_of, records_of, short};
 use crate::lines::DestLine;
 use crate::openings::{OpenedCore, events_of, forget_place};
 use sg_core::Core;
@@ -22,7 +22,7 @@ pub(crate) struct RunSoFar {
     /// The stores that have failed.
     pub(crate) failed: Vec<u32>,
     /// The offers that were taken in.
-    pub(crate) made: Vec<Made>,
+    pub(crate) made: Vec<MadeOffer>,
     pub(crate) lines: [DestLine; 3],
     /// How many records of each source a replay counts that aren't the core's.
     pub(crate) brought: [u64; 3],
@@ -58,7 +58,7 @@ impl RunSoFar {
     /// A run over stores in which this is found, of the offers that were made before.
     pub(crate) fn over(
         alloc: Global,
-        made: &[Made],
+        made: &[MadeOffer],
         found: OpenedCore,
     ) -> Result<RunSoFar, AllocError> {
         let events = events_of(alloc, made, &found)?;
@@ -147,7 +147,7 @@ impl RunSoFar {
         Ok(())
     }
 
-    pub(crate) fn made(&self) -> &[Made] {
+    pub(crate) fn made(&self) -> &[MadeOffer] {
         &self.made
     }
 

@@ -6,7 +6,8 @@ use Rattle.sg_machine.specs.declared.setup.Setup.{Setup}
 abbrev pub meeting : Setup
 meeting = record {
   sources = record { window = 100; store = Some 0 } ∷ [];
-  dests = record { fifo = 100; buffer = None } ∷ record { fifo = 100; buffer = Some (record { store = 1; capacity = 1000 }) } ∷ [];
+  dests = record { fifo = 100; buffer = None }
+      ∷ record { fifo = 100; buffer = Some (record { store = 1; capacity = 1000 }) } ∷ [];
 }
 
 -- the inlets and the destinations, whatever router

@@ -5,3 +5,5 @@
 mod meeting;
 #[cfg(test)]
 mod runs;
+#[cfg(test)]
+mod watched;

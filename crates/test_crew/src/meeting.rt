@@ -7,6 +7,7 @@ ghost use Rattle.sg_standing.specs.States.{setup_of};
 ghost use Rattle.sg_turns.specs.Actors.{IsSource, AreSources, IsDest, AreDests};
 ghost use Rattle.test_crew.specs.Runs.{meeting, two};
 
+use crate::watched::{Noted, machine};
 use sg_actor::{DestActor, SourceActor, SourceSpec};
 use sg_core::Core;
 use sg_crew::serve;
@@ -337,7 +338,18 @@ fn met<T: Threads + Wait + Eprint + Sync + Clock>(
             return Err(e);
         }
     };
-    close(serve(rt, alloc, core, sources, dests, MEETINGS + 1));
+    let mut noted = Noted::new();
+    let mut machine = machine(alloc);
+    close(serve(
+        rt,
+        alloc,
+        core,
+        sources,
+        dests,
+        MEETINGS + 1,
+        &mut noted,
+        &mut machine,
+    ));
     Ok(flags.seen.load(Ordering::SeqCst))
 }
 

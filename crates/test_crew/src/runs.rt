@@ -1,12 +1,13 @@
 // Runs of two sources and two destinations.
 ghost use Rattle.std.specs.Prelude.{◌<◌, ◌≤◌};
 
+use crate::watched::{Noted, machine};
 use sg_crew::serve;
 use sg_device::NoMemory;
 use std::alloc::Global;
 use std::sync::Wait;
 use std::thread::Threads;
-use test_flow::{FlowOutcome, Prepared, Row, finish, lines, prepare, read_row, rounds_of};
+use test_flow::{FlowOutcome, FlowRow, Prepared, finish, lines, prepare, read_row, rounds_of};
 
 // What is shown; the bytes of each of two files, a line feed written as $; the sends and reopenings of the
 // first destination that fail, counted from 0; whether it gives up; the rounds at most; and how the run
@@ -122,17 +123,34 @@ fn took(alloc: Global, taken: &[u8], frames: &str) -> Result<bool, NoMemory> {
     Ok(sorted.trim_ascii() == wanted.trim_ascii())
 }
 
-fn came(alloc: Global, outcome: &FlowOutcome, row: &Row<'_>) -> Result<bool, NoMemory> {
+fn came(alloc: Global, outcome: &FlowOutcome, row: &FlowRow<'_>) -> Result<bool, NoMemory> {
     let took = took(alloc, &outcome.frames, row.frames)?;
     Ok(took && outcome.end == row.end && outcome.has_positions(row.positions))
+}
+
+fn sum_of(words: &str) -> u64 {
+    let mut sum = 0u64;
+    for word in words.split(' ') {
+        sum = sum.saturating_add(count_of(word));
+    }
+    sum
+}
+
+// Whether the watch saw the run to its end, where all that was kept was taken if nothing failed; a record of these rows is offered
+// once. What fails in one turn alone may work again before the watch looks.
+fn is_noted(noted: Noted, row: &FlowRow<'_>) -> bool {
+    let whole = noted.kept == noted.taken && noted.kept == noted.records;
+    let failed = noted.failed != row.fails.is_empty() || row.fails == "0";
+    let stored = noted.stored == sum_of(row.positions) && noted.eased > 0;
+    noted.last && noted.looks > 1 && failed && stored && (whole || !row.fails.is_empty())
 }
 
 fn runs<T: Threads + Wait + Eprint + Sync>(
     rt: &T,
     alloc: Global,
-    row: &Row<'_>,
+    row: &FlowRow<'_>,
     rounds: u64,
-) -> Result<FlowOutcome, NoMemory>
+) -> Result<(FlowOutcome, Noted), NoMemory>
     requires some { 0 < rounds }
     requires most { rounds ≤ 1000 }
 {
@@ -143,8 +161,20 @@ fn runs<T: Threads + Wait + Eprint + Sync>(
         sources,
         dests,
     } = prepare(alloc, row, first, second)?;
-    let served = serve(rt, alloc, core, sources, dests, rounds);
-    Ok(finish(alloc, served)?)
+    let mut noted = Noted::new();
+    let mut machine = machine(alloc);
+    let served = serve(
+        rt,
+        alloc,
+        core,
+        sources,
+        dests,
+        rounds,
+        &mut noted,
+        &mut machine,
+    );
+    let outcome = finish(alloc, served)?;
+    Ok((outcome, noted))
 }
 
 // Whether the run is that of the row.
@@ -159,8 +189,8 @@ fn shows<T: Threads + Wait + Eprint + Sync>(
     let Some(rounds) = rounds_of(row.rounds) else {
         return Ok(false);
     };
-    let outcome = runs(rt, alloc, &row, rounds)?;
-    Ok(came(alloc, &outcome, &row)?)
+    let (outcome, noted) = runs(rt, alloc, &row, rounds)?;
+    Ok(is_noted(noted, &row) && came(alloc, &outcome, &row)?)
 }
 
 #[test]

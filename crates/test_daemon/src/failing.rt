@@ -18,7 +18,7 @@ fn plan(alloc: Global, numbers: &str) -> Result<FaultPlan, Fail> {
 fn plan_from(alloc: Global, number: &str) -> Result<FaultPlan, Fail> {
     let first: u64 = number.parse()?;
     let mut calls = Vec::new(alloc);
-    for behind in 0..100 {
+    for behind in 0..200 {
         calls.push(first.saturating_add(behind))?;
     }
     Ok(FaultPlan::new(calls))
@@ -74,6 +74,7 @@ fn fail(
         "file" => fail_files(alloc, plan, world)?,
         "unused" => close_files(alloc, plan, world)?,
         "say" => world.plans.says = plan,
+        "due" => world.plans.dues = plan,
         _ => return Ok(false),
     }
     Ok(true)

@@ -8,6 +8,8 @@ mod command_rows;
 #[cfg(test)]
 mod config_rows;
 #[cfg(test)]
+mod count_rows;
+#[cfg(test)]
 mod failing;
 #[cfg(test)]
 mod failing_rows;

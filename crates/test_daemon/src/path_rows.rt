@@ -63,14 +63,14 @@ fn taken(alloc: Global, world: &MemoryWorld) -> Result<Vec<u8>, AllocError> {
 
 // The fields of a row.
 #[derive(Drop)]
-struct Row<'a> {
+struct PathRow<'a> {
     calls: &'a str,
     code: &'a str,
     texts: &'a str,
     ending: &'a str,
 }
 
-fn read_row(row: &str) -> Option<Row<'_>> {
+fn read_row(row: &str) -> Option<PathRow<'_>> {
     let Some((_name, rest)) = field(row) else {
         return None;
     };
@@ -81,7 +81,7 @@ fn read_row(row: &str) -> Option<Row<'_>> {
         return None;
     };
     match field(rest) {
-        Some((texts, ending)) => Some(Row {
+        Some((texts, ending)) => Some(PathRow {
             calls,
             code,
             texts,
@@ -92,14 +92,14 @@ fn read_row(row: &str) -> Option<Row<'_>> {
 }
 
 // Whether an answer has this exit status, and ends so.
-fn answers_so(alloc: Global, said: &[u8], row: &Row<'_>) -> Result<bool, AllocError> {
+fn answers_so(alloc: Global, said: &[u8], row: &PathRow<'_>) -> Result<bool, AllocError> {
     let code = row.code;
     let begin = format!(in alloc; "{code};")?;
     let ending = text(alloc, row.ending)?;
     Ok(said.starts_with(begin.as_bytes()) && said.ends_with(&ending))
 }
 
-fn took_so(alloc: Global, world: &MemoryWorld, row: &Row<'_>) -> Result<bool, AllocError> {
+fn took_so(alloc: Global, world: &MemoryWorld, row: &PathRow<'_>) -> Result<bool, AllocError> {
     let took = taken(alloc, world)?;
     let wanted = text(alloc, row.texts)?;
     Ok(took.as_slice() == wanted.as_slice())
@@ -109,7 +109,7 @@ fn took_so(alloc: Global, world: &MemoryWorld, row: &Row<'_>) -> Result<bool, Al
 fn runs_so<T: Threads + Wait + Eprint + Sync>(
     rt: &T,
     alloc: Global,
-    row: &Row<'_>,
+    row: &PathRow<'_>,
     machine: &mut MemoryMachine,
 ) -> Result<bool, Fail> {
     fail_all(alloc, row.calls, &mut machine.world)?;

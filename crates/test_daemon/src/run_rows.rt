@@ -47,7 +47,7 @@ one~two~;0;;run c --rounds 9;one~two~;9;source 0 records 2 bad-frames 0 position
 
 // The fields of a row.
 #[derive(Drop)]
-struct Row<'a> {
+struct RunRow<'a> {
     input: &'a str,
     stored: &'a str,
     calls: &'a str,
@@ -55,7 +55,7 @@ struct Row<'a> {
     answer: &'a str,
 }
 
-fn read_row(row: &str) -> Option<Row<'_>> {
+fn read_row(row: &str) -> Option<RunRow<'_>> {
     let Some((input, rest)) = field(row) else {
         return None;
     };
@@ -66,7 +66,7 @@ fn read_row(row: &str) -> Option<Row<'_>> {
         return None;
     };
     match field(rest) {
-        Some((line, answer)) => Some(Row {
+        Some((line, answer)) => Some(RunRow {
             input,
             stored,
             calls,
@@ -114,7 +114,7 @@ fn keep(alloc: Global, at: u64, bytes: &[u8], world: &mut MemoryWorld) -> Result
 }
 
 // Lets the machine of a row have what is stored, and calls of it fail.
-fn prepare(alloc: Global, row: &Row<'_>, world: &mut MemoryWorld) -> Result<(), Fail> {
+fn prepare(alloc: Global, row: &RunRow<'_>, world: &mut MemoryWorld) -> Result<(), Fail> {
     let (at, bytes) = position(alloc, row.stored)?;
     keep(alloc, at, &bytes, world)?;
     fail_all(alloc, row.calls, world)
@@ -124,7 +124,7 @@ fn prepare(alloc: Global, row: &Row<'_>, world: &mut MemoryWorld) -> Result<(), 
 fn runs_so<T: Threads + Wait + Eprint + Sync>(
     rt: &T,
     alloc: Global,
-    row: &Row<'_>,
+    row: &RunRow<'_>,
     machine: &mut MemoryMachine,
 ) -> Result<bool, Fail> {
     prepare(alloc, row, &mut machine.world)?;
@@ -132,7 +132,7 @@ fn runs_so<T: Threads + Wait + Eprint + Sync>(
     Ok(is_text(alloc, &said, row.answer)?)
 }
 
-fn machine(alloc: Global, row: &Row<'_>) -> Result<MemoryMachine, AllocError> {
+fn machine(alloc: Global, row: &RunRow<'_>) -> Result<MemoryMachine, AllocError> {
     let input = text(alloc, row.input)?;
     with_input(alloc, &input)
 }
@@ -140,7 +140,7 @@ fn machine(alloc: Global, row: &Row<'_>) -> Result<MemoryMachine, AllocError> {
 fn row_runs<T: Threads + Wait + Eprint + Sync>(
     rt: &T,
     alloc: Global,
-    row: &Row<'_>,
+    row: &RunRow<'_>,
 ) -> Result<bool, Fail> {
     let mut machine = machine(alloc, row)?;
     runs_so(rt, alloc, row, &mut machine)

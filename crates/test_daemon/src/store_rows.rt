@@ -56,14 +56,14 @@ const ROWS: &str = "\
 
 // The fields of a row.
 #[derive(Drop)]
-struct Row<'a> {
+struct StoreRow<'a> {
     length: &'a str,
     parts: &'a str,
     calls: &'a str,
     answer: &'a str,
 }
 
-fn read_row(row: &str) -> Option<Row<'_>> {
+fn read_row(row: &str) -> Option<StoreRow<'_>> {
     let Some((length, rest)) = field(row) else {
         return None;
     };
@@ -71,7 +71,7 @@ fn read_row(row: &str) -> Option<Row<'_>> {
         return None;
     };
     match field(rest) {
-        Some((calls, answer)) => Some(Row {
+        Some((calls, answer)) => Some(StoreRow {
             length,
             parts,
             calls,
@@ -119,7 +119,7 @@ fn lay_parts(alloc: Global, store: &mut [u8], parts: &str) -> Result<(), Fail> {
 }
 
 // The bytes of a row's store.
-fn laid(alloc: Global, row: &Row<'_>) -> Result<Vec<u8>, Fail> {
+fn laid(alloc: Global, row: &StoreRow<'_>) -> Result<Vec<u8>, Fail> {
     let mut store = vec![in alloc; 0u8; row.length.parse()?]?;
     lay_parts(alloc, &mut store, row.parts)?;
     Ok(store)
@@ -160,7 +160,7 @@ fn keeps(world: &MemoryWorld, bytes: &[u8]) -> bool {
 fn lists_so<T: Threads + Wait + Eprint + Sync>(
     rt: &T,
     alloc: Global,
-    row: &Row<'_>,
+    row: &StoreRow<'_>,
     bytes: &[u8],
     machine: &mut MemoryMachine,
 ) -> Result<bool, Fail> {
@@ -172,7 +172,7 @@ fn lists_so<T: Threads + Wait + Eprint + Sync>(
 fn lists_bytes<T: Threads + Wait + Eprint + Sync>(
     rt: &T,
     alloc: Global,
-    row: &Row<'_>,
+    row: &StoreRow<'_>,
     bytes: &[u8],
 ) -> Result<bool, Fail> {
     let mut machine = with_store(alloc, bytes)?;

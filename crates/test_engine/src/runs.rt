@@ -5,7 +5,7 @@ use sg_device::NoMemory;
 use sg_engine::serve;
 use std::alloc::Global;
 use std::sync::Wait;
-use test_flow::{FlowOutcome, Prepared, Row, finish, lines, prepare, read_row, rounds_of};
+use test_flow::{FlowOutcome, FlowRow, Prepared, finish, lines, prepare, read_row, rounds_of};
 
 // What is shown; the bytes of each of two files, a line feed written as $; the sends and reopenings of the
 // first destination that fail, counted from 0; whether it gives up; the rounds at most; and how the run
@@ -22,13 +22,18 @@ a destination that is given up / 0a$1b$ / 1c$0d$ / 0 1 2 / gives-up / 20 / quiet
 a destination that fails for ever / 0a$ / 1c$ / 0 1 2 3 4 5 6 7 8 9 / / 8 / spent / | 1c | / 0 3";
 
 // Whether the run came to what the row says.
-fn came(outcome: &FlowOutcome, row: &Row<'_>) -> bool {
+fn came(outcome: &FlowOutcome, row: &FlowRow<'_>) -> bool {
     outcome.end == row.end
         && outcome.frames.trim_ascii() == row.frames.as_bytes()
         && outcome.has_positions(row.positions)
 }
 
-fn runs<T: Wait>(rt: &T, alloc: Global, row: &Row<'_>, rounds: u64) -> Result<FlowOutcome, NoMemory>
+fn runs<T: Wait>(
+    rt: &T,
+    alloc: Global,
+    row: &FlowRow<'_>,
+    rounds: u64,
+) -> Result<FlowOutcome, NoMemory>
     requires some { 0 < rounds }
     requires most { rounds ≤ 1000 }
 {

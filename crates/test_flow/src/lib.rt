@@ -12,4 +12,4 @@ pub use lists::{close_dests, close_sources, two_dests};
 pub use outcome::{FlowOutcome, finish};
 pub use preparing::{Prepared, disks, prepare, shape};
 pub use router::{ByDigit, message};
-pub use rows::{Row, lines, read_row, rounds_of};
+pub use rows::{FlowRow, lines, read_row, rounds_of};

@@ -8,7 +8,7 @@ ghost use Rattle.test_flow.specs.Runs.{two, two_files};
 
 use crate::lists::{close_dests, close_sources, two_dests};
 use crate::router::ByDigit;
-use crate::rows::{Row, numbers};
+use crate::rows::{FlowRow, numbers};
 use sg_actor::{DestActor, SourceActor, SourceSpec};
 use sg_core::Core;
 use sg_device::NoMemory;
@@ -222,7 +222,7 @@ fn with_core(
 /// What the new disks refuse counts as no memory.
 pub fn prepare(
     alloc: Global,
-    row: &Row<'_>,
+    row: &FlowRow<'_>,
     first: Vec<u8>,
     second: Vec<u8>,
 ) -> Result<Prepared, NoMemory>

@@ -8,7 +8,7 @@ use std::alloc::Global;
 /// files; the sends and reopenings of the first destination that fail; whether it gives up; the rounds at
 /// most; how the run ends; what each destination took; and the stored position of each file.
 #[derive(Drop)]
-pub struct Row<'a> {
+pub struct FlowRow<'a> {
     pub first: &'a str,
     pub second: &'a str,
     pub fails: &'a str,
@@ -23,8 +23,8 @@ fn cell(row: &str, place: usize) -> &str {
     row.split('/').nth(place).unwrap_or("").trim()
 }
 
-fn cells_of(row: &str) -> Row<'_> {
-    Row {
+fn cells_of(row: &str) -> FlowRow<'_> {
+    FlowRow {
         first: cell(row, 1),
         second: cell(row, 2),
         fails: cell(row, 3),
@@ -46,7 +46,7 @@ fn are_numbers(words: &str) -> bool {
 }
 
 /// Reads a row, or gives None where it isn't understood.
-pub fn read_row(row: &str) -> Option<Row<'_>> {
+pub fn read_row(row: &str) -> Option<FlowRow<'_>> {
     let cells = cells_of(row);
     let known = cells.gives_up.is_empty() || cells.gives_up == "gives-up";
     if known && are_numbers(cells.fails) && row.split('/').count() == 9 {

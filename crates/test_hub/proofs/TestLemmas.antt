@@ -1,14 +1,12 @@
 -- The core that is tried, and what it is asked.
-use Rattle.std.proofs.Common.{◌≡◌, ℕ, ◌+◌, ◌<◌, ◌≤◌, ◌^◌, List, [], ◌∷◌, ◌++◌, length, Some, None, IsSome, refl, sym, ap, ◌∙◌, arith, suc, zero, slice_get, subst}
-use Rattle.sg_msg.specs.declared.offer.Offer.{Offer}
+use Rattle.std.proofs.Common.{◌≡◌, ℕ, ◌+◌, ◌<◌, ◌≤◌, ◌^◌, List, [], length, Some, None, IsSome, refl, sym, ap, ◌∙◌, arith, suc, zero, slice_get, subst}
 use Rattle.sg_machine.specs.declared.event.Admission.{Admission}
-use Rattle.sg_machine.specs.declared.setup.BufferSetup.{BufferSetup}
 use Rattle.sg_machine.specs.declared.setup.DestSetup.{DestSetup}
 use Rattle.sg_machine.specs.declared.setup.Setup.{Setup}
 use Rattle.sg_counter.specs.Bringing.{MayEnter, AllMayEnter, IsBatch, store_in}
 use Rattle.sg_core.specs.Opening.{NumberStores, HaveWindows, HaveCapacities, buffer_store_in}
-use Rattle.test_hub.specs.Cores.{tried, IsTried}
-use Rattle.sg_msg.specs.Offers.{AllWithin}
+use Rattle.test_hub.specs.Cores.{tried, IsTriedSetup}
+use Rattle.sg_machine.proofs.BufferLemmas.{within-some}
 
 source-store : (w f c i s : ℕ) → store_in (tried w f c).sources i ≡ Some s → (s ≡ i) × (i < 2)
 source-store w f c zero s p = let e : Some 0 ≡ Some s = p in let g : 0 ≡ s = cc in (sym g, omega arith)
@@ -32,11 +30,6 @@ tried-numbers w f c = record {
 pub tried-windows : (w f c : ℕ) → 0 < w → HaveWindows (tried w f c).sources
 tried-windows w f c h = (h, (h, tt))
 
-within-some : (n most s : ℕ) (buffer : BufferSetup) → Some (record { store = s; capacity = n }) ≡ Some buffer → n ≤ most → buffer.capacity ≤ most
-within-some n most s buffer h le =
-    let is : record { store = s; capacity = n } ≡ buffer = cc in
-    subst (λ (x : BufferSetup). x.capacity ≤ most) is le
-
 pub tried-capacities : (w f c : ℕ) → c ≤ 2 ^ 30 → HaveCapacities (tried w f c).dests
 tried-capacities w f c h zero setup buffer get has =
     let e : Some (record { fifo = f; buffer = None }) ≡ Some setup = get in
@@ -53,19 +46,11 @@ tried-stores w f c zero l = refl
 tried-stores w f c (suc zero) l = refl
 tried-stores w f c (suc (suc i)) l = absurd (omega (arith, l))
 
-pub is-tried : (w f c : ℕ) → IsTried (tried w f c)
+pub is-tried : (w f c : ℕ) → IsTriedSetup (tried w f c)
 is-tried w f c = record { sources = refl; dests = refl; stores = tried-stores w f c }
 
-pub tried-as : (setup : Setup) (w f c : ℕ) → setup ≡ tried w f c → IsTried setup
-tried-as setup w f c e = subst IsTried (sym e) (is-tried w f c)
+pub tried-as : (setup : Setup) (w f c : ℕ) → setup ≡ tried w f c → IsTriedSetup setup
+tried-as setup w f c e = subst IsTriedSetup (sym e) (is-tried w f c)
 
-pub within_push : (n : ℕ) (os : List Offer) (o : Offer) → AllWithin n os → o.dest < n → AllWithin n (os ++ o ∷ [])
-within_push n [] o h l = (l, tt)
-within_push n (p ∷ os) o h l = (h.0, within_push n os o h.1 l)
-
-pub enter_push : (n : ℕ) (rs : List Admission) (r : Admission) → AllMayEnter n rs → r.end < 2 ^ 63 → length r.offers ≤ 1024 → AllWithin n r.offers → AllMayEnter n (rs ++ r ∷ [])
-enter_push n [] r h end few within = (record { end = end; few = few; dests = within }, tt)
-enter_push n (q ∷ rs) r h end few within = (h.0, enter_push n rs r h.1 end few within)
-
-pub batch_of : (setup : Setup) (records : List Admission) → IsTried setup → 0 < length records → length records ≤ 1000 → AllMayEnter 2 records → IsBatch setup records
+pub batch_of : (setup : Setup) (records : List Admission) → IsTriedSetup setup → 0 < length records → length records ≤ 1000 → AllMayEnter 2 records → IsBatch setup records
 batch_of setup records h some few each = record { some = some; few = few; each = subst (λ n. AllMayEnter n records) (sym h.dests) each }

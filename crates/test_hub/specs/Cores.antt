@@ -10,12 +10,14 @@ use Rattle.sg_counter.specs.declared.calls.CoreCall.TheVariants.{Credit, Admit, 
 -- two sources with stores of their own, a queue in memory and a disk-buffer
 abbrev pub tried : ℕ → ℕ → ℕ → Setup
 tried window fifo capacity = record {
-  sources = record { window = window; store = Some 0 } ∷ record { window = window; store = Some 1 } ∷ [];
-  dests = record { fifo = fifo; buffer = None } ∷ record { fifo = fifo; buffer = Some (record { store = 2; capacity = capacity }) } ∷ [];
+  sources = record { window = window; store = Some 0 } ∷ record { window = window; store = Some 1 }
+      ∷ [];
+  dests = record { fifo = fifo; buffer = None }
+      ∷ record { fifo = fifo; buffer = Some (record { store = 2; capacity = capacity }) } ∷ [];
 }
 
 -- a setup of that kind
-pub record IsTried (setup : Setup) : Type 0 where
+pub record IsTriedSetup (setup : Setup) : Type 0 where
   pub sources : length setup.sources ≡ 2
   pub dests : length setup.dests ≡ 2
   pub stores : (i : ℕ) → i < 2 → IsSome (store_in setup.sources i)

@@ -1,11 +1,10 @@
 // Calls of a core as words, and its replies.
 ghost use Rattle.std.specs.Prelude.{◌≡◌, ◌≤◌, ◌<◌, ◌+◌, IfOk, IfSome, OnOk, length};
 ghost use Rattle.sg_counter.specs.Bringing.{AllMayEnter};
-ghost use Rattle.test_hub.specs.Cores.{IsTried, MayAsk};
+ghost use Rattle.test_hub.specs.Cores.{IsTriedSetup, MayAsk};
 ghost use Rattle.sg_msg.specs.Offers.{AllWithin};
 
 use crate::cores::{add_offer, add_record};
-use crate::told::{Teller, told};
 use sg_counter::{CoreCall, CoreReply, Counter, Settler};
 use sg_list::Seq;
 use sg_machine::Admission;
@@ -13,23 +12,15 @@ use sg_msg::Offer;
 use std::alloc::{AllocError, Global};
 use std::sync::Wait;
 use test_replies::{
-    ReplyText, put_admitted, put_front, put_number, put_refilled, put_settled, put_stored,
+    ReplyText, Teller, number, put_admitted, put_front, put_number, put_refilled, put_settled,
+    put_stored, told,
 };
 
 // Sources 0 and 1 have the position stores 0 and 1. Destination 0 is a queue in memory, destination 1 has a
-// disk-buffer in store 2. Each call begins with a word: a0 an admit of source 0, behind which stand r9, a record that
-// ends at 9, and d0f100, its offer to destination 0 with flow-control (n without) of 100 encoded bytes. It answers
-// the verdicts Q, S, W, F and D, or for lack of credit - and how many records came back. f0,5 is the front of
-// destination 0, at most 5 entries: the first's place and their number, or e where none is left. s0,1,2 settles 2
-// from place 1 on: k, or - where that isn't the front. m1 is a refill: how many moved, - where none waits, o where
-// the first doesn't fit. p0 stores the position of source 0, c0 tells its credit. A store that has failed answers x.
-
-pub(crate) fn number(word: Option<&str>) -> u32 {
-    match word {
-        Some(word) => word.parse().unwrap_or(u32::MAX),
-        None => u32::MAX,
-    }
-}
+// disk-buffer in store 2. How calls are written stands at `is_call` of test_replies. An admit answers the verdicts
+// Q, S, W, F and D, or for lack of credit - and how many records came back; a front the first's place and their
+// number, or e where none is left; a settle k, or - where that isn't the front; a refill how many moved, - where
+// none waits, o where the first doesn't fit. A store that has failed answers x.
 
 // The offer of a word as d0f100, behind its d.
 fn offer_word(alloc: Global, offers: &mut Vec<Offer>, word: &str) -> Result<(), AllocError>
@@ -99,62 +90,6 @@ fn admit(alloc: Global, inlet: u32, text: &str) -> Result<Option<CoreCall>, Allo
     }))
 }
 
-// Whether these are so many numbers.
-fn are_numbers(text: &str, count: usize) -> bool {
-    for word in text.split(',') {
-        if word.parse::<u32>().is_err() {
-            return false;
-        }
-    }
-    text.split(',').count() == count
-}
-
-fn is_size(word: &str) -> bool {
-    match word.parse::<u32>() {
-        Ok(size) => size <= 1 << 30,
-        Err(_) => false,
-    }
-}
-
-// Whether it is the end of a record, or an offer.
-fn is_entry(word: &str) -> bool {
-    if let Some(end) = word.strip_prefix('r') {
-        return are_numbers(end, 1);
-    }
-    let Some(offer) = word.strip_prefix('d') else {
-        return false;
-    };
-    match offer.split_once(if offer.contains('f') { 'f' } else { 'n' }) {
-        Some((dest, size)) => matches!(dest, "0" | "1") && is_size(size),
-        None => false,
-    }
-}
-
-// Whether these are records, the first one first.
-fn are_records(text: &str) -> bool {
-    for word in text.split_whitespace() {
-        if !is_entry(word) {
-            return false;
-        }
-    }
-    text.starts_with('r')
-}
-
-/// Whether these words are a call.
-pub(crate) fn is_call(text: &str) -> bool {
-    let (first, rest) = text.split_once(' ').unwrap_or((text, ""));
-    let (letter, numbers) = first.split_at_checked(1).unwrap_or(("", ""));
-    match letter {
-        "a" => are_numbers(numbers, 1) && are_records(rest),
-        "m" => are_numbers(numbers, 1) && rest.is_empty(),
-        "p" => are_numbers(numbers, 1) && rest.is_empty(),
-        "c" => are_numbers(numbers, 1) && rest.is_empty(),
-        "f" => are_numbers(numbers, 2) && rest.is_empty(),
-        "s" => are_numbers(numbers, 3) && rest.is_empty(),
-        _ => false,
-    }
-}
-
 /// The call of these words, where they are one.
 pub(crate) fn read_call(alloc: Global, text: &str) -> Result<Option<CoreCall>, AllocError>
     ensures { IfOk result (λ call. IfSome call MayAsk) }
@@ -195,7 +130,7 @@ pub(crate) fn ask<C: Settler<Teller>, T: Wait>(
     call: CoreCall,
 ) -> CoreReply
     requires left { 0 < C.left counter.old }
-    requires tried { IsTried (C.setup counter.old) }
+    requires tried { IsTriedSetup (C.setup counter.old) }
     requires may { MayAsk call }
     ensures step { C.step counter.old call result counter.new }
     ensures setup { C.setup counter.new ≡ C.setup counter.old }

@@ -10,7 +10,6 @@ mod calls;
 mod cores;
 mod seats;
 mod threads;
-mod told;
 
 use std::alloc::{AllocError, Global};
 use std::io;

@@ -3,9 +3,9 @@ ghost use Rattle.std.specs.Prelude.{◌≡◌, ◌≤◌, ◌<◌, ◌+◌, ◌^
 ghost use Rattle.sg_booth.specs.Desks.{IsDeskOf};
 ghost use Rattle.sg_standing.specs.States.{setup_of};
 ghost use Rattle.sg_hub.specs.Seats.{SeatStep};
-ghost use Rattle.test_hub.specs.Cores.{IsTried, MayAsk};
+ghost use Rattle.test_hub.specs.Cores.{IsTriedSetup, MayAsk};
 
-use crate::calls::{ask, is_call, number, put_reply, read_call};
+use crate::calls::{ask, put_reply, read_call};
 use crate::cores::open;
 use sg_core::Core;
 use sg_counter::{CoreCall, CoreReply};
@@ -14,7 +14,7 @@ use sg_machine::Tally;
 use sg_memory_disk::MemoryDisk;
 use std::alloc::{AllocError, Global};
 use std::sync::Wait;
-use test_replies::{ReplyText, put_number};
+use test_replies::{ReplyText, is_call, number, put_number};
 
 // A row has what is shown; the windows; how many entries without flow-control the queue takes; the capacity of
 // the disk-buffer; and the calls, at most 1,000. Before each stands the seat at which it is made, 1 or 2. Where there
@@ -32,7 +32,7 @@ pub(crate) fn ask_at<T: Wait>(
 ) -> CoreReply
     requires seat { IsDeskOf hub.now seat.old }
     requires left { 0 < seat.old.left }
-    requires tried { IsTried (setup_of hub.now.made) }
+    requires tried { IsTriedSetup (setup_of hub.now.made) }
     requires may { MayAsk call }
     ensures step { SeatStep hub.entry.now seat.old call result seat.new }
 {
@@ -49,9 +49,9 @@ fn answer<T: Wait>(
     out: &mut ReplyText,
 )
     requires few { core.old.calls + 1 < 2 ^ 54 }
-    requires tried { IsTried (setup_of core.old) }
+    requires tried { IsTriedSetup (setup_of core.old) }
     ensures calls { core.new.calls ≤ core.old.calls + 1 }
-    ensures tried { IsTried (setup_of core.new) }
+    ensures tried { IsTriedSetup (setup_of core.new) }
 {
     let (_, words) = text.split_once(' ').unwrap_or(("", ""));
     match read_call(alloc, words) {
@@ -70,7 +70,7 @@ fn at_core<T: Wait>(
     out: &mut ReplyText,
 )
     requires calls { core.old.calls ≡ 0 }
-    requires tried { IsTried (setup_of core.old) }
+    requires tried { IsTriedSetup (setup_of core.old) }
 {
     let mut spare = CALLS;
     for part in text.split('/') {
@@ -118,7 +118,7 @@ fn answer_at<T: Wait>(
 )
     requires seat { IsDeskOf hub.now seat.old }
     requires left { 0 < seat.old.left }
-    requires tried { IsTried (setup_of hub.now.made) }
+    requires tried { IsTriedSetup (setup_of hub.now.made) }
     ensures seat { IsDeskOf hub.entry.now seat.new }
     ensures left { seat.old.left ≤ seat.new.left + 1 }
 {
@@ -160,7 +160,7 @@ fn take_part<T: Wait>(
     requires two { IsDeskOf hub.now two.old }
     requires one_left { 0 < one.old.left }
     requires two_left { 0 < two.old.left }
-    requires tried { IsTried (setup_of hub.now.made) }
+    requires tried { IsTriedSetup (setup_of hub.now.made) }
     ensures one { IsDeskOf hub.entry.now one.new }
     ensures two { IsDeskOf hub.entry.now two.new }
     ensures one_left { one.old.left ≤ one.new.left + 1 }
@@ -188,7 +188,7 @@ fn at_seats<T: Wait>(
     requires two { IsDeskOf hub.now two.old }
     requires one_left { 1000 < one.old.left }
     requires two_left { 1000 < two.old.left }
-    requires tried { IsTried (setup_of hub.now.made) }
+    requires tried { IsTriedSetup (setup_of hub.now.made) }
     ensures one { IsDeskOf hub.entry.now one.new }
     ensures two { IsDeskOf hub.entry.now two.new }
     ensures one_left { 0 < one.new.left }
@@ -211,7 +211,7 @@ fn at_hub<T: Wait>(
     text: &str,
 ) -> Result<Vec<u8>, AllocError>
     requires calls { core.calls ≡ 0 }
-    requires tried { IsTried (setup_of core) }
+    requires tried { IsTriedSetup (setup_of core) }
 {
     let (hub, mut one) = match Hub::new(alloc, core) {
         Ok(made) => made,
@@ -233,7 +233,7 @@ fn is_part(alloc: Global, text: &str) -> Result<bool, AllocError> {
         return Ok(true);
     }
     let (seat, words) = text.split_once(' ').unwrap_or((text, ""));
-    if !(seat == "1" || seat == "2") || !is_call(words) {
+    if !(seat == "1" || seat == "2") || !is_call(words, 2) {
         return Ok(false);
     }
     Ok(read_call(alloc, words)?.is_some())
@@ -250,16 +250,16 @@ fn are_parts(alloc: Global, text: &str) -> Result<bool, AllocError> {
 
 // A row's setup, and its calls.
 #[derive(Clone, Copy, Drop)]
-struct AskedCore<'a> {
+struct HubRow<'a> {
     window: u32,
     fifo: u32,
     capacity: u32,
     text: &'a str,
 }
 
-fn words_of(row: &str) -> AskedCore<'_> {
+fn words_of(row: &str) -> HubRow<'_> {
     let mut parts = row.split('|').skip(1);
-    AskedCore {
+    HubRow {
         window: number(Some(parts.next().unwrap_or("").trim())),
         fifo: number(Some(parts.next().unwrap_or("").trim())),
         capacity: number(Some(parts.next().unwrap_or("").trim())),
@@ -267,7 +267,7 @@ fn words_of(row: &str) -> AskedCore<'_> {
     }
 }
 
-fn said_at_core<T: Wait>(rt: &T, alloc: Global, asked: AskedCore<'_>) -> Result<Vec<u8>, AllocError>
+fn said_at_core<T: Wait>(rt: &T, alloc: Global, asked: HubRow<'_>) -> Result<Vec<u8>, AllocError>
     requires window { 0 < asked.window }
     requires capacity { asked.capacity ≤ 2 ^ 30 }
 {
@@ -278,7 +278,7 @@ fn said_at_core<T: Wait>(rt: &T, alloc: Global, asked: AskedCore<'_>) -> Result<
     with_tally(alloc, out, core)
 }
 
-fn said_at_hub<T: Wait>(rt: &T, alloc: Global, asked: AskedCore<'_>) -> Result<Vec<u8>, AllocError>
+fn said_at_hub<T: Wait>(rt: &T, alloc: Global, asked: HubRow<'_>) -> Result<Vec<u8>, AllocError>
     requires window { 0 < asked.window }
     requires capacity { asked.capacity ≤ 2 ^ 30 }
 {
@@ -296,7 +296,7 @@ fn differing(alloc: Global, said: &[u8], plain: &[u8]) -> Result<Vec<u8>, AllocE
     out.done()
 }
 
-fn compared<T: Wait>(rt: &T, alloc: Global, asked: AskedCore<'_>) -> Result<Vec<u8>, AllocError> {
+fn compared<T: Wait>(rt: &T, alloc: Global, asked: HubRow<'_>) -> Result<Vec<u8>, AllocError> {
     if asked.window == 0 || asked.capacity > 1 << 30 {
         return Vec::from_slice(alloc, b"no such setup");
     }

@@ -2,7 +2,7 @@
 ghost use Rattle.std.specs.Prelude.{◌≡◌, ◌≤◌, ◌<◌, ◌+◌, ◌^◌, IfOk, IfSome, length};
 ghost use Rattle.sg_booth.specs.Desks.{IsDeskOf};
 ghost use Rattle.sg_standing.specs.States.{setup_of};
-ghost use Rattle.test_hub.specs.Cores.{IsTried, MayAsk};
+ghost use Rattle.test_hub.specs.Cores.{IsTriedSetup, MayAsk};
 
 use crate::cores::{add_record, open};
 use crate::seats::ask_at;
@@ -44,7 +44,7 @@ fn admit_all<T: Wait>(
     requires left { count ≤ seat.left }
     requires count { count < 2 ^ 32 }
     requires inlet { inlet < 2 }
-    requires tried { IsTried (setup_of hub.now.made) }
+    requires tried { IsTriedSetup (setup_of hub.now.made) }
     ensures seat { IsDeskOf hub.entry.now result }
     ensures left { seat.left ≤ result.left + count }
 {
@@ -66,7 +66,7 @@ fn admit_both<R: Threads + Wait + Sync>(
     requires seat { IsDeskOf hub.now seat }
     requires left { count + count < seat.left }
     requires count { count < 2 ^ 32 }
-    requires tried { IsTried (setup_of hub.now.made) }
+    requires tried { IsTriedSetup (setup_of hub.now.made) }
     ensures seat { IsDeskOf hub.entry.now result }
     ensures left { 0 < result.left }
 {
@@ -75,12 +75,12 @@ fn admit_both<R: Threads + Wait + Sync>(
         rt,
         || -> Seat<MemoryDisk>
             requires { IsDeskOf hub.now seat × (count < seat.left) × (count < 2 ^ 32)
-                × IsTried (setup_of hub.now.made) }
+                × IsTriedSetup (setup_of hub.now.made) }
             ensures { IsDeskOf hub.entry.now result × (0 < result.left) }
         { admit_all(rt, alloc, hub, seat, 0, count) },
         || -> Seat<MemoryDisk>
             requires { IsDeskOf hub.now other × (count ≤ other.left) × (count < 2 ^ 32)
-                × IsTried (setup_of hub.now.made) }
+                × IsTriedSetup (setup_of hub.now.made) }
             ensures { IsDeskOf hub.entry.now result }
         { admit_all(rt, alloc, hub, other, 1, count) },
     );
@@ -97,7 +97,7 @@ fn filled<R: Threads + Wait + Sync>(
 ) -> Core<MemoryDisk>
     requires calls { core.calls ≡ 0 }
     requires count { count < 2 ^ 32 }
-    requires tried { IsTried (setup_of core) }
+    requires tried { IsTriedSetup (setup_of core) }
 {
     match Hub::new(alloc, core) {
         Ok((hub, seat)) => {

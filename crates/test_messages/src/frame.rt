@@ -117,7 +117,7 @@ fn are_items(items: &[(Bytes, u64, i64)], wants: &[Want], step: usize) -> bool {
 
 /// A stream by its kind of frames, its limit, its items, and the place of a bad byte.
 #[derive(Drop)]
-struct Row {
+struct FrameRow {
     kind: FrameKind,
     limit: u32,
     stream: &'static [u8],
@@ -126,7 +126,7 @@ struct Row {
 }
 
 // Whether the stream in pieces of so many bytes gives what is wanted.
-fn gives(alloc: Global, row: &Row, step: usize) -> bool {
+fn gives(alloc: Global, row: &FrameRow, step: usize) -> bool {
     if row.limit == 0 || step == 0 || row.stream.len() >= 100 {
         return false;
     }
@@ -137,7 +137,7 @@ fn gives(alloc: Global, row: &Row, step: usize) -> bool {
 }
 
 // The first number of bytes of a piece with which it doesn't, from one to the whole stream and one more.
-fn first_fault(alloc: Global, row: &Row) -> Option<usize> {
+fn first_fault(alloc: Global, row: &FrameRow) -> Option<usize> {
     for step in 1..row.stream.len().saturating_add(2) {
         if !gives(alloc, row, step) {
             return Some(step);
@@ -149,7 +149,7 @@ fn first_fault(alloc: Global, row: &Row) -> Option<usize> {
 #[test]
 fn counted_streams(rt: HostRuntime) {
     for (limit, stream, items, bad) in COUNTED {
-        let row = Row {
+        let row = FrameRow {
             kind: FrameKind::Counted,
             limit,
             stream,
@@ -163,7 +163,7 @@ fn counted_streams(rt: HostRuntime) {
 #[test]
 fn lines_of_streams(rt: HostRuntime) {
     for (limit, stream, items) in LINES {
-        let row = Row {
+        let row = FrameRow {
             kind: FrameKind::Lines,
             limit,
             stream,

@@ -112,14 +112,14 @@ fn message_of(alloc: Global, item: &[u8], at: i64, opts: &ReadOpts) -> Result<Me
 
 // A row's parts.
 #[derive(Drop)]
-struct Row<'r> {
+struct Rfc3164Row<'r> {
     item: &'r str,
     pri: &'r str,
     at: &'r str,
     pairs: &'r str,
 }
 
-fn row_of(line: &str) -> Option<Row<'_>> {
+fn row_of(line: &str) -> Option<Rfc3164Row<'_>> {
     let Some((item, said)) = line.split_once(" => ") else {
         return None;
     };
@@ -127,7 +127,7 @@ fn row_of(line: &str) -> Option<Row<'_>> {
         return None;
     };
     match head.split_once(' ') {
-        Some((pri, at)) => Some(Row {
+        Some((pri, at)) => Some(Rfc3164Row {
             item,
             pri,
             at,
@@ -137,7 +137,7 @@ fn row_of(line: &str) -> Option<Row<'_>> {
     }
 }
 
-fn says(message: &Message, row: &Row) -> bool {
+fn says(message: &Message, row: &Rfc3164Row) -> bool {
     match row.at.parse::<i64>() {
         Ok(at) => {
             has_head(message, row.pri, Stamp { at, offset: 0 })

@@ -85,14 +85,14 @@ fn read_row(alloc: Global, item: &[u8]) -> Result<Message, R5424Refusal> {
 
 // A row's parts.
 #[derive(Drop)]
-struct Row<'r> {
+struct Rfc5424Row<'r> {
     item: &'r str,
     pri: &'r str,
     stamp: &'r str,
     pairs: &'r str,
 }
 
-fn row_of(line: &str) -> Option<Row<'_>> {
+fn row_of(line: &str) -> Option<Rfc5424Row<'_>> {
     let Some((item, said)) = line.split_once(" => ") else {
         return None;
     };
@@ -100,7 +100,7 @@ fn row_of(line: &str) -> Option<Row<'_>> {
         return None;
     };
     match head.split_once(' ') {
-        Some((pri, stamp)) => Some(Row {
+        Some((pri, stamp)) => Some(Rfc5424Row {
             item,
             pri,
             stamp,
@@ -123,7 +123,7 @@ fn stamp_of(text: &str) -> Option<Stamp> {
     }
 }
 
-fn says(message: &Message, row: &Row) -> bool {
+fn says(message: &Message, row: &Rfc5424Row) -> bool {
     match stamp_of(row.stamp) {
         Some(sent) => has_head(message, row.pri, sent) && has_pairs(message, row.pairs, '|'),
         None => false,

@@ -14,7 +14,7 @@ mod messages;
 mod rows;
 
 use messages::{message_of, pairs_said, sums_said};
-use rows::{Row, read_row, text_of};
+use rows::{ParserRow, read_row, text_of};
 use sg_msg::Message;
 use sg_parsers::ParserRule;
 use std::alloc::{AllocError, Global};
@@ -26,7 +26,7 @@ fn copied(alloc: Global, text: &[u8]) -> Result<Vec<u8>, AllocError> {
 
 fn said(
     alloc: Global,
-    row: &Row<'_>,
+    row: &ParserRow<'_>,
     text: &[u8],
     message: &Message,
     taken: bool,
@@ -45,7 +45,7 @@ fn said(
 
 fn applied(
     alloc: Global,
-    row: &Row<'_>,
+    row: &ParserRow<'_>,
     text: &[u8],
     rule: &ParserRule,
 ) -> Result<Vec<u8>, AllocError> {
@@ -58,7 +58,7 @@ fn applied(
     said(alloc, row, text, &message, taken)
 }
 
-fn told(alloc: Global, row: &Row<'_>) -> Result<Vec<u8>, AllocError> {
+fn told(alloc: Global, row: &ParserRow<'_>) -> Result<Vec<u8>, AllocError> {
     let text = text_of(alloc, row)?;
     let made = making::rule(alloc, row)?;
     match &made {

@@ -1,7 +1,7 @@
 // Parsers of rows.
-use crate::rows::Row;
+use crate::rows::ParserRow;
 use sg_device::Name;
-use sg_parsers::{Csv, Kv, Parser, ParserRule};
+use sg_parsers::{Csv, Kv, MessageParser, ParserRule};
 use sg_template::Template;
 use std::alloc::{AllocError, Global};
 
@@ -13,7 +13,7 @@ fn columns_of(alloc: Global, names: &str) -> Result<Vec<Name>, AllocError> {
     Ok(columns)
 }
 
-fn csv_of(alloc: Global, row: &Row<'_>) -> Result<Option<Parser>, AllocError> {
+fn csv_of(alloc: Global, row: &ParserRow<'_>) -> Result<Option<MessageParser>, AllocError> {
     let prefix = row.prefix.as_bytes();
     let columns = columns_of(alloc, row.names)?;
     let delimiters = row.between.as_bytes();
@@ -25,23 +25,23 @@ fn csv_of(alloc: Global, row: &Row<'_>) -> Result<Option<Parser>, AllocError> {
         row.greedy,
         row.drop_invalid,
     )? {
-        Some(csv) => Ok(Some(Parser::Csv(csv))),
+        Some(csv) => Ok(Some(MessageParser::Csv(csv))),
         None => Ok(None),
     }
 }
 
-fn kv_of(alloc: Global, row: &Row<'_>) -> Result<Option<Parser>, AllocError> {
+fn kv_of(alloc: Global, row: &ParserRow<'_>) -> Result<Option<MessageParser>, AllocError> {
     let Some(value_separator) = row.names.as_bytes().first() else {
         return Ok(None);
     };
-    Ok(Some(Parser::Kv(Kv {
+    Ok(Some(MessageParser::Kv(Kv {
         prefix: Name::new(alloc, row.prefix.as_bytes())?,
         pair_separator: Name::new(alloc, row.between.as_bytes())?,
         value_separator: *value_separator,
     })))
 }
 
-fn parser_of(alloc: Global, row: &Row<'_>) -> Result<Option<Parser>, AllocError> {
+fn parser_of(alloc: Global, row: &ParserRow<'_>) -> Result<Option<MessageParser>, AllocError> {
     if row.is_csv {
         csv_of(alloc, row)
     } else {
@@ -53,7 +53,7 @@ fn message_template(alloc: Global) -> Option<Template> {
     Template::read(alloc, b"$MESSAGE").ok()
 }
 
-pub(crate) fn rule(alloc: Global, row: &Row<'_>) -> Result<Option<ParserRule>, AllocError> {
+pub(crate) fn rule(alloc: Global, row: &ParserRow<'_>) -> Result<Option<ParserRule>, AllocError> {
     let Some(parser) = parser_of(alloc, row)? else {
         return Ok(None);
     };

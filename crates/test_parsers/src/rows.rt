@@ -2,7 +2,7 @@
 use std::alloc::{AllocError, Global};
 
 #[derive(Drop)]
-pub(crate) struct Row<'r> {
+pub(crate) struct ParserRow<'r> {
     pub(crate) is_csv: bool,
     pub(crate) count: u32,
     pub(crate) greedy: bool,
@@ -82,12 +82,12 @@ fn parts_of(rest: &str) -> Option<(&str, &str, &str)> {
     }
 }
 
-fn row_of<'r>(head: Head, parts: &'r str) -> Option<Row<'r>> {
+fn row_of<'r>(head: Head, parts: &'r str) -> Option<ParserRow<'r>> {
     let Some((between, names, rest)) = parts_of(parts) else {
         return None;
     };
     match rest.split_once(" ~ ") {
-        Some((prefix, text)) => Some(Row {
+        Some((prefix, text)) => Some(ParserRow {
             is_csv: head.is_csv,
             count: head.count,
             greedy: head.greedy,
@@ -101,7 +101,7 @@ fn row_of<'r>(head: Head, parts: &'r str) -> Option<Row<'r>> {
     }
 }
 
-pub(crate) fn read_row(line: &str) -> Option<Row<'_>> {
+pub(crate) fn read_row(line: &str) -> Option<ParserRow<'_>> {
     let Some((words, rest)) = line.split_once(" ~ ") else {
         return None;
     };
@@ -123,7 +123,7 @@ fn put_piece(alloc: Global, text: &[u8], number: u32, out: &mut Vec<u8>) -> Resu
     Ok(())
 }
 
-pub(crate) fn text_of(alloc: Global, row: &Row<'_>) -> Result<Vec<u8>, AllocError> {
+pub(crate) fn text_of(alloc: Global, row: &ParserRow<'_>) -> Result<Vec<u8>, AllocError> {
     let mut text = Vec::new(alloc);
     if row.count == 1 {
         text.extend_from_slice(row.text.as_bytes())?;

@@ -16,7 +16,7 @@ use Rattle.sg_filter.specs.Decisions.{Decision, decides, decision_of}
 use Rattle.sg_tree.specs.Rules.{Rule, rule_of, rewritten_by}
 use Rattle.sg_tree.specs.Walk.{WalkResult, Steps, Siblings, filter, rewrite, parse, deliver, junction, choose, sibling, walk, round, both, each, then_each, deliveries_to, counted, up_to_final, is_in_round, stopped, size, siblings_size}
 use Rattle.sg_tree.specs.Plain.{element_view, steps_view, siblings_view, choice_view, marks, own_steps}
-use Rattle.test_paths.specs.declared.gone.Gone.{Gone}
+use Rattle.test_paths.specs.declared.gone.RoutedMessages.{RoutedMessages}
 use Rattle.test_paths.specs.Gives.{GivesWalked}
 use Rattle.test_paths.proofs.Going.{BehindElements, left, behind-at, behind-more, behind-gives}
 use Rattle.sg_tree.proofs.Views.{view-Filter, view-Rewrite, view-Parse, view-Deliver, view-Junction, view-If, view-Path}
@@ -75,11 +75,11 @@ module _ (old new : List Offer) (whole : WalkResult) (steps rest : Steps) (m : C
       behind-more old new new' (deliveries_to drivers m f) whole (walk rest m f) (behind-at old new whole _ _ (ap (λ (s : Steps). walk s m f) is) b) e
 
 -- a message that is stopped
-pub stops : (old new : List Offer) (whole : WalkResult) (gone : Gone) → BehindElements old new whole stopped → gone.out.items ≡ [] → gone.processed ≡ false → GivesWalked old new gone whole
+pub stops : (old new : List Offer) (whole : WalkResult) (gone : RoutedMessages) → BehindElements old new whole stopped → gone.out.items ≡ [] → gone.processed ≡ false → GivesWalked old new gone whole
 stops old new whole gone b none unprocessed = behind-gives old new new gone whole stopped b (record { offers = sym (append-nil new); out = none; processed = unprocessed })
 
 -- the rest behind what came out
-pub then-gives : (a b c : List Offer) (first gone : Gone) (w : WalkResult) (rest : Content → WalkResult)
+pub then-gives : (a b c : List Offer) (first gone : RoutedMessages) (w : WalkResult) (rest : Content → WalkResult)
     → GivesWalked a b first w → GivesWalked b c gone (then_each (left [] first) rest) → GivesWalked a c gone (then_each w rest)
 then-gives a b c first gone w rest g h =
     let later = each rest first.out.items in
@@ -90,17 +90,17 @@ then-gives a b c first gone w rest g h =
       processed = h.processed ∙ ap (λ p. p && later.processed) g.processed ∙ ap (λ (x : WalkResult). w.processed && x.processed) same;
     }
 
-pub then-ok : {E : Type 0} (r : Result Gone E) (a b c : List Offer) (first : Gone) (w : WalkResult) (rest : Content → WalkResult)
+pub then-ok : {E : Type 0} (r : Result RoutedMessages E) (a b c : List Offer) (first : RoutedMessages) (w : WalkResult) (rest : Content → WalkResult)
     → GivesWalked a b first w → IfOk r (λ gone. GivesWalked b c gone (then_each (left [] first) rest)) → IfOk r (λ gone. GivesWalked a c gone (then_each w rest))
 then-ok r a b c first w rest g = IfOk-weaker r _ _ (λ gone h. then-gives a b c first gone w rest g h)
 
 -- what comes later is given, by the same walk
-pub behind-ok : {E : Type 0} (r : Result Gone E) (old a c : List Offer) (whole before w : WalkResult)
+pub behind-ok : {E : Type 0} (r : Result RoutedMessages E) (old a c : List Offer) (whole before w : WalkResult)
     → BehindElements old a whole before → before ≡ w → IfOk r (λ gone. GivesWalked a c gone w) → IfOk r (λ gone. GivesWalked old c gone whole)
 behind-ok r old a c whole before w behind is =
     IfOk-weaker r _ _ (λ gone h. behind-gives old a c gone whole w (behind-at old a whole before w is behind) h)
 
-pub ok-at : {E : Type 0} (r : Result Gone E) (old old' new : List Offer) (w w' : WalkResult) → old ≡ old' → w ≡ w'
+pub ok-at : {E : Type 0} (r : Result RoutedMessages E) (old old' new : List Offer) (w w' : WalkResult) → old ≡ old' → w ≡ w'
     → IfOk r (λ gone. GivesWalked old new gone w) → IfOk r (λ gone. GivesWalked old' new gone w')
 ok-at r old old' new w w' eo ew h =
     subst (λ (x : WalkResult). IfOk r (λ gone. GivesWalked old' new gone x)) ew (subst (λ (x : List Offer). IfOk r (λ gone. GivesWalked x new gone w)) eo h)

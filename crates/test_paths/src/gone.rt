@@ -6,14 +6,14 @@ use std::alloc::AllocError;
 
 /// The messages that came out, and whether the one that went in was processed.
 #[derive(Drop)]
-pub(crate) struct Gone {
+pub(crate) struct RoutedMessages {
     pub(crate) out: Vec<Message>,
     pub(crate) processed: bool,
 }
 
-impl Gone {
+impl RoutedMessages {
     /// What the other left too.
-    pub(crate) fn join(&mut self, other: Gone) -> Result<(), AllocError>
+    pub(crate) fn join(&mut self, other: RoutedMessages) -> Result<(), AllocError>
         ensures { OnOk result ((self.new.out.items ≡ self.old.out.items ++ other.out.items)
             × (self.new.processed ≡ (self.old.processed || other.processed))) }
     {

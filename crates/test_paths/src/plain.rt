@@ -8,7 +8,7 @@ ghost use Rattle.sg_tree.specs.Plain.{marks};
 ghost use Rattle.sg_tree.specs.Walk.{is_in_round, round};
 ghost use Rattle.test_paths.specs.Gives.{GivesWalked};
 
-use crate::gone::Gone;
+use crate::gone::RoutedMessages;
 use crate::walk::one;
 use bytes::Bytes;
 use sg_filter::Expr;
@@ -40,11 +40,11 @@ fn round_of_tops<B: Builder>(
     late: bool,
     message: &Message,
     offers: &mut Vec<Offer>,
-) -> Result<Gone, PathRefusal>
+) -> Result<RoutedMessages, PathRefusal>
     ensures { IfOk result (λ gone. GivesWalked offers.old.items offers.new.items gone
         (round (offered inlet (map (top_view named.now) paths.now)) late message.now false)) }
 {
-    let mut gone = Gone {
+    let mut gone = RoutedMessages {
         out: Vec::new(alloc),
         processed: false,
     };

@@ -5,7 +5,7 @@ ghost use Rattle.sg_tree.specs.Sound.{op_sound};
 use sg_device::Name;
 use sg_filter::Expr;
 use sg_lex::Line;
-use sg_parsers::{Csv, Kv, Parser, ParserRule};
+use sg_parsers::{Csv, Kv, MessageParser, ParserRule};
 use sg_pattern::{Flags, Kind, PatternText};
 use sg_rewrite::Op;
 use sg_template::Template;
@@ -78,7 +78,7 @@ pub(crate) fn rule(alloc: Global, condition: Option<Expr>, text: &str) -> Option
     }
 }
 
-fn parse_of(alloc: Global, parser: Parser) -> Option<Element> {
+fn parse_of(alloc: Global, parser: MessageParser) -> Option<Element> {
     match Template::read(alloc, b"$MESSAGE") {
         Ok(text) => Some(Element::Parse(ParserRule { text, parser })),
         Err(_) => None,
@@ -106,7 +106,7 @@ pub(crate) fn columns(alloc: Global, text: &str) -> Option<Element> {
         return None;
     };
     match csv_of(alloc, &names) {
-        Some(csv) => parse_of(alloc, Parser::Csv(csv)),
+        Some(csv) => parse_of(alloc, MessageParser::Csv(csv)),
         None => None,
     }
 }
@@ -123,7 +123,7 @@ fn kv_of(alloc: Global, prefix: &str) -> Result<Kv, AllocError> {
 pub(crate) fn keys(alloc: Global, word: &str) -> Option<Element> {
     let prefix = if word == "-" { "" } else { word };
     match kv_of(alloc, prefix) {
-        Ok(kv) => parse_of(alloc, Parser::Kv(kv)),
+        Ok(kv) => parse_of(alloc, MessageParser::Kv(kv)),
         Err(_) => None,
     }
 }

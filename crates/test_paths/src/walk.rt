@@ -6,7 +6,7 @@ ghost use Rattle.sg_tree.specs.Plain.{steps_view, siblings_view, choice_view, ow
 ghost use Rattle.test_paths.specs.Gives.{GivesWalked};
 
 use crate::applied::{holds, rewrite};
-use crate::gone::Gone;
+use crate::gone::RoutedMessages;
 use sg_filter::Expr;
 use sg_msg::{Message, Offer};
 use sg_pattern::Builder;
@@ -38,7 +38,7 @@ fn walk<B: Builder>(
     message: Message,
     flow: bool,
     offers: &mut Vec<Offer>,
-) -> Result<Gone, PathRefusal>
+) -> Result<RoutedMessages, PathRefusal>
     ensures { IfOk result (λ gone. GivesWalked offers.old.items offers.new.items gone
         (walk (steps_view named.now elements.now embedded.now) message flow)) }
 {
@@ -47,7 +47,7 @@ fn walk<B: Builder>(
         match &elements[at] {
             Element::Filter(expr) => {
                 if !holds(alloc, builder, expr, named, &message)? {
-                    return Ok(Gone {
+                    return Ok(RoutedMessages {
                         out: Vec::new(alloc),
                         processed: false,
                     });
@@ -57,7 +57,7 @@ fn walk<B: Builder>(
             Element::Parse(rule) => {
                 let taken = rule.apply(alloc, &mut message)?;
                 if !taken {
-                    return Ok(Gone {
+                    return Ok(RoutedMessages {
                         out: Vec::new(alloc),
                         processed: false,
                     });
@@ -99,7 +99,7 @@ fn walk<B: Builder>(
     branches(alloc, builder, named, embedded, &message, flow, offers)?;
     let mut out = Vec::new(alloc);
     push_message(&mut out, message)?;
-    Ok(Gone {
+    Ok(RoutedMessages {
         out,
         processed: true,
     })
@@ -117,7 +117,7 @@ fn walk_junction<B: Builder>(
     message: &Message,
     flow: bool,
     offers: &mut Vec<Offer>,
-) -> Result<Gone, PathRefusal>
+) -> Result<RoutedMessages, PathRefusal>
     ensures { IfOk result (λ gone. GivesWalked offers.old.items offers.new.items gone
         (then_each (branches (siblings_view named.now channels.now) message.now flow)
         (λ n. walk (steps_view named.now elements.now embedded.now) n flow))) }
@@ -141,7 +141,7 @@ fn walk_if<B: Builder>(
     message: Message,
     flow: bool,
     offers: &mut Vec<Offer>,
-) -> Result<Gone, PathRefusal>
+) -> Result<RoutedMessages, PathRefusal>
     ensures { IfOk result (λ gone. GivesWalked offers.old.items offers.new.items gone
         (then_each (chosen (choice_view named.now tests.now other.now) message flow)
         (λ n. walk (steps_view named.now elements.now embedded.now) n flow))) }
@@ -158,17 +158,17 @@ fn rest<B: Builder>(
     alloc: Global,
     builder: &mut B,
     named: &[Expr],
-    first: Gone,
+    first: RoutedMessages,
     elements: &[Element],
     embedded: &[Path],
     flow: bool,
     offers: &mut Vec<Offer>,
-) -> Result<Gone, PathRefusal>
+) -> Result<RoutedMessages, PathRefusal>
     ensures { IfOk result (λ gone. GivesWalked offers.old.items offers.new.items gone
         (then_each (record { deliveries = []; out = first.out.items; processed = first.processed })
         (λ n. walk (steps_view named.now elements.now embedded.now) n flow))) }
 {
-    let mut gone = Gone {
+    let mut gone = RoutedMessages {
         out: Vec::new(alloc),
         processed: false,
     };
@@ -198,7 +198,7 @@ fn branches<B: Builder>(
     message: &Message,
     flow: bool,
     offers: &mut Vec<Offer>,
-) -> Result<Gone, PathRefusal>
+) -> Result<RoutedMessages, PathRefusal>
     ensures { IfOk result (λ gone. GivesWalked offers.old.items offers.new.items gone
         (branches (siblings_view named.now siblings.now) message.now flow)) }
 {
@@ -222,11 +222,11 @@ fn round<B: Builder>(
     message: &Message,
     flow: bool,
     offers: &mut Vec<Offer>,
-) -> Result<Gone, PathRefusal>
+) -> Result<RoutedMessages, PathRefusal>
     ensures { IfOk result (λ gone. GivesWalked offers.old.items offers.new.items gone
         (round (siblings_view named.now siblings.now) late message.now flow)) }
 {
-    let mut gone = Gone {
+    let mut gone = RoutedMessages {
         out: Vec::new(alloc),
         processed: false,
     };
@@ -253,7 +253,7 @@ pub(crate) fn one<B: Builder>(
     message: &Message,
     flow: bool,
     offers: &mut Vec<Offer>,
-) -> Result<Gone, PathRefusal>
+) -> Result<RoutedMessages, PathRefusal>
     ensures { IfOk result (λ gone. GivesWalked offers.old.items offers.new.items gone
         (counted (marks path.now) (walk (own_steps named.now path.now) message.now
         (flow || (marks path.now).flow)))) }
@@ -284,7 +284,7 @@ fn choose<B: Builder>(
     message: Message,
     flow: bool,
     offers: &mut Vec<Offer>,
-) -> Result<Gone, PathRefusal>
+) -> Result<RoutedMessages, PathRefusal>
     ensures { IfOk result (λ gone. GivesWalked offers.old.items offers.new.items gone
         (chosen (choice_view named.now tests.now other.now) message flow)) }
 {

@@ -95,7 +95,7 @@ fn written(alloc: Global, spans: &[(usize, usize)]) -> Result<String, AllocError
 
 // The parts of a row.
 #[derive(Drop)]
-struct Row<'r> {
+struct PatternRow<'r> {
     kind: Kind,
     letters: &'r str,
     pattern: &'r str,
@@ -103,7 +103,7 @@ struct Row<'r> {
     spans: &'r str,
 }
 
-fn row_of(row: &str) -> Option<Row<'_>> {
+fn row_of(row: &str) -> Option<PatternRow<'_>> {
     let Some((head, rest)) = row.split_once(' ') else {
         return None;
     };
@@ -114,7 +114,7 @@ fn row_of(row: &str) -> Option<Row<'_>> {
         return None;
     };
     match rest.split_once(" |") {
-        Some((text, spans)) if are_flags(letters) => Some(Row {
+        Some((text, spans)) if are_flags(letters) => Some(PatternRow {
             kind,
             letters,
             pattern,
@@ -126,27 +126,35 @@ fn row_of(row: &str) -> Option<Row<'_>> {
 }
 
 // Whether a matcher gives the spans of a row.
-fn gives(alloc: Global, matcher: &mut Matcher, row: &Row<'_>) -> Result<bool, AllocError> {
+fn gives(alloc: Global, matcher: &mut Matcher, row: &PatternRow<'_>) -> Result<bool, AllocError> {
     let found = matcher.spans(alloc, row.text.as_bytes())?;
     let text = written(alloc, &found)?;
     Ok(text.as_str() == row.spans)
 }
 
 // Whether a second matcher gives them.
-fn shared_gives(alloc: Global, matcher: &Matcher, row: &Row<'_>) -> Result<bool, AllocError> {
+fn shared_gives(
+    alloc: Global,
+    matcher: &Matcher,
+    row: &PatternRow<'_>,
+) -> Result<bool, AllocError> {
     let mut other = matcher.share(alloc)?;
     gives(alloc, &mut other, row)
 }
 
 // Whether both do, and the first one finds where there are any.
-fn all_give(alloc: Global, matcher: &mut Matcher, row: &Row<'_>) -> Result<bool, AllocError> {
+fn all_give(
+    alloc: Global,
+    matcher: &mut Matcher,
+    row: &PatternRow<'_>,
+) -> Result<bool, AllocError> {
     let first = gives(alloc, matcher, row)?;
     let second = shared_gives(alloc, matcher, row)?;
     let finds = matcher.finds(row.text.as_bytes())?;
     Ok(first && second && finds != row.spans.is_empty())
 }
 
-fn row_holds(alloc: Global, row: &Row<'_>) -> Result<bool, AllocError> {
+fn row_holds(alloc: Global, row: &PatternRow<'_>) -> Result<bool, AllocError> {
     let mut patterns = Patterns::new(alloc);
     let (pattern, flags) = (row.pattern.as_bytes(), flags_of(row.letters));
     let mut made = Matcher::new(alloc, &mut patterns, row.kind, pattern, flags);

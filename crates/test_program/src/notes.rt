@@ -1,5 +1,6 @@
 // What is told beside the fault of a configuration file, whose text is the row: the file is named `c`, and includes others by the names
-// `d`, which refers to a filter that isn't there, `e`, which defines one, and `f`, which includes one that isn't there.
+// `d`, which refers to a filter that isn't there, `e`, which defines one, `f`, which includes one that isn't there, and one whose name is
+// written as a variable, which includes that too.
 
 use crate::commands::check;
 use crate::heard::Heard;
@@ -34,6 +35,7 @@ fn included_files(alloc: Global) -> Result<Vec<MemoryFile>, NoMemory> {
         b"@include \"e\"\n@include \"gone\"\n",
         &mut files,
     )?;
+    add_file(alloc, b"`v`", b"@include \"gone\"\n", &mut files)?;
     Ok(files)
 }
 

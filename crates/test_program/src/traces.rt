@@ -14,7 +14,7 @@ use sg_outfmt::Shape;
 use sg_template::{Env, Template};
 use sg_trace::{FileReading, SentForm, Untraced, trace_file};
 use sg_world::MemoryMachine;
-use split::Split;
+use split::SplitTrace;
 use std::alloc::{AllocError, Global};
 
 const ENV: Env = Env {
@@ -57,7 +57,7 @@ fn traced(alloc: Global, kind: FrameKind, limit: u32, text: &str) -> Result<Vec<
     requires { 0 < limit }
 {
     let targets = [target(alloc, b"$MESSAGE\n")?, target(alloc, b"$MESSAGE")?];
-    let mut router = Split { count: 0 };
+    let mut router = SplitTrace { count: 0 };
     let mut machine = machine(alloc, text)?;
     let reader = FileReading {
         inlet: 0,

@@ -61,7 +61,7 @@ const ROWS: &str = "\
 
 // A row's parts.
 #[derive(Drop)]
-struct Row<'r> {
+struct RewriteRow<'r> {
     place: &'r str,
     words: &'r str,
     name: &'r str,
@@ -70,7 +70,7 @@ struct Row<'r> {
     expected: &'r str,
 }
 
-fn row_of(line: &str) -> Option<Row<'_>> {
+fn row_of(line: &str) -> Option<RewriteRow<'_>> {
     let Some((head, rest)) = line.split_once(" ~ ") else {
         return None;
     };
@@ -84,7 +84,7 @@ fn row_of(line: &str) -> Option<Row<'_>> {
     let Some((text, expected)) = rest.split_once(" ~ ") else {
         return None;
     };
-    Some(Row {
+    Some(RewriteRow {
         place,
         words,
         name,
@@ -164,7 +164,7 @@ fn gives_text(alloc: Global, rewrite: &mut Rewrite, message: &Message, expected:
 }
 
 // The rewrite of a row, if its words are understood and nothing else stands there.
-fn rewrite_by(alloc: Global, row: &Row) -> Option<Rewrite> {
+fn rewrite_by(alloc: Global, row: &RewriteRow) -> Option<Rewrite> {
     if has_these(row.words, row.pattern, row.text) {
         return rewrite_of(alloc, row.words, row.name, row.pattern, row.text);
     }
@@ -172,7 +172,7 @@ fn rewrite_by(alloc: Global, row: &Row) -> Option<Rewrite> {
 }
 
 // Whether this rewrite gives what the row says.
-fn gives_row(alloc: Global, rewrite: &mut Rewrite, row: &Row) -> bool {
+fn gives_row(alloc: Global, rewrite: &mut Rewrite, row: &RewriteRow) -> bool {
     let made = message_at(alloc, row.place);
     match &made {
         Some(message) => gives_text(alloc, rewrite, message, row.expected),

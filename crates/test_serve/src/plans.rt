@@ -269,7 +269,7 @@ fn has_taken(world: &MemoryWorld, frames: &str) -> bool {
 
 // The parts of a row.
 #[derive(Clone, Copy, Drop)]
-struct Row<'a> {
+struct PlanRow<'a> {
     fails: &'a str,
     how: &'a str,
     what: &'a str,
@@ -280,8 +280,8 @@ fn cell(row: &str, place: usize) -> &str {
     row.split(';').nth(place).unwrap_or("")
 }
 
-fn read_row(row: &str) -> Row<'_> {
-    Row {
+fn read_row(row: &str) -> PlanRow<'_> {
+    PlanRow {
         fails: cell(row, 0),
         how: cell(row, 1),
         what: cell(row, 2),
@@ -296,7 +296,7 @@ fn run<T: Threads + Wait + Eprint + Sync>(
 ) -> Result<PlanEnded, NoMemory> {
     let routers = routers(alloc)?;
     let plan = plan(alloc)?;
-    Ok(run_plan(rt, alloc, plan, routers, 100, machine))
+    Ok(run_plan(rt, alloc, plan, routers, 100, 0, machine))
 }
 
 // Whether a run on the machine, with the call failing that the row names, ends as the row says.
@@ -304,7 +304,7 @@ fn goes<T: Threads + Wait + Eprint + Sync>(
     rt: &T,
     alloc: Global,
     machine: &mut MemoryMachine,
-    row: Row<'_>,
+    row: PlanRow<'_>,
 ) -> Result<bool, NoMemory> {
     if !fail(alloc, row.fails, &mut machine.world)? {
         return Ok(false);

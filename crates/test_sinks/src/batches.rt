@@ -51,7 +51,7 @@ fn destinations(alloc: Global, capacity: u64) -> Result<Seq<Sink>, Fail> {
     Ok(sinks)
 }
 
-#[tactic(auto, using(crate::proofs::TestLemmas::within_push))]
+#[tactic(auto, using(sg_msg::proofs::OfferLemmas::within_push))]
 fn add_offer(
     alloc: Global,
     offers: &mut Vec<Offer>,

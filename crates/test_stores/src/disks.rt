@@ -88,7 +88,7 @@ fn text(alloc: Global, bytes: &[u8]) -> Result<String, Fail> {
 
 // The calls, the number of the one that fails, what it leaves, and the picks of an image.
 #[derive(Drop)]
-struct Row<'a> {
+struct DiskRow<'a> {
     calls: &'a str,
     failing: &'a str,
     tears: &'a str,
@@ -96,12 +96,12 @@ struct Row<'a> {
 }
 
 // The parts of a row, and what its calls leave.
-fn parts(row: &str) -> Result<(Row<'_>, &str), Fail> {
+fn parts(row: &str) -> Result<(DiskRow<'_>, &str), Fail> {
     let (calls, rest) = row.split_once(' ').ok_or("no calls")?;
     let (failing, rest) = rest.split_once(' ').ok_or("no failing call")?;
     let (tears, rest) = rest.split_once(' ').ok_or("no tears")?;
     let (picks, left) = rest.split_once(' ').ok_or("no picks")?;
-    let row = Row {
+    let row = DiskRow {
         calls,
         failing,
         tears,
@@ -111,7 +111,7 @@ fn parts(row: &str) -> Result<(Row<'_>, &str), Fail> {
 }
 
 // A disk of `abcd` on which a call fails.
-fn failing(alloc: Global, row: &Row) -> Result<MemoryDisk, Fail> {
+fn failing(alloc: Global, row: &DiskRow) -> Result<MemoryDisk, Fail> {
     let mut plan = DiskPlan::failing(alloc, fails(alloc, row.failing)?);
     plan.tears = picks(alloc, row.tears)?;
     Ok(MemoryDisk::failing(alloc, b"abcd".to_vec(alloc)?, plan)?)

@@ -142,18 +142,18 @@ fn slot_of(alloc: Global, port: &str, slot: &str, once: bool) -> Result<InletSpe
 
 // What a row asks for, the place, and the number of pulls.
 #[derive(Drop)]
-struct Row<'a> {
+struct MemoryRow<'a> {
     spec: &'a str,
     from: u64,
     pulls: usize,
 }
 
 // The parts of a row, and what its inlet is to give.
-fn parts(row: &str) -> Result<(Row<'_>, &str), Fail> {
+fn parts(row: &str) -> Result<(MemoryRow<'_>, &str), Fail> {
     let (spec, rest) = row.split_once(' ').ok_or("no request")?;
     let (from, rest) = rest.split_once(' ').ok_or("no place")?;
     let (pulls, given) = rest.split_once(' ').ok_or("no pulls")?;
-    let row = Row {
+    let row = MemoryRow {
         spec,
         from: from.parse()?,
         pulls: pulls.parse()?,
@@ -162,7 +162,7 @@ fn parts(row: &str) -> Result<(Row<'_>, &str), Fail> {
 }
 
 // What an inlet gives: its place, a space, and what the pulls give.
-fn gives(alloc: Global, world: &mut MemoryWorld, row: &Row) -> Result<String, Fail> {
+fn gives(alloc: Global, world: &mut MemoryWorld, row: &MemoryRow) -> Result<String, Fail> {
     let request = request(alloc, row.spec)?;
     let Ok((mut feed, place)) = world.open_inlet(alloc, &request, row.from) else {
         return Ok(format!(in alloc; "- -")?);

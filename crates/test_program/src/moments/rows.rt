@@ -14,7 +14,7 @@ const PICKS: [&str; 10] = ["o", "n", "1", "0", "on", "no", "1o", "0n", "n0", "o1
 // How many runs were stopped, and how many of them before their rounds; how many runs came behind them, and how many of these
 // were right; and what one of the others came to.
 #[derive(Drop)]
-struct Sums {
+struct MomentSums {
     stopped: u64,
     early: u64,
     runs: u64,
@@ -84,7 +84,7 @@ fn look<T: Threads + Wait + Eprint + Sync>(
     stores: &MemoryStores,
     letters: &str,
     due: &Due,
-    sums: &mut Sums,
+    sums: &mut MomentSums,
 ) -> Result<(), NoMemory> {
     let mut due = due.copy(alloc)?;
     let images = crashed(alloc, stores, letters, letters)?;
@@ -101,7 +101,7 @@ fn look_all<T: Threads + Wait + Eprint + Sync>(
     alloc: Global,
     stores: &MemoryStores,
     due: &Due,
-    sums: &mut Sums,
+    sums: &mut MomentSums,
 ) -> Result<(), NoMemory> {
     for letters in PICKS {
         look(rt, alloc, stores, letters, due, sums)?;
@@ -115,7 +115,7 @@ fn stop<T: Threads + Wait + Eprint + Sync>(
     alloc: Global,
     stores: MemoryStores,
     stops: DeviceStops<'_>,
-    sums: &mut Sums,
+    sums: &mut MomentSums,
 ) -> Result<bool, NoMemory> {
     let mut due = Due::new(alloc)?;
     let ran = run(rt, alloc, stores, stops, &mut due)?;
@@ -146,8 +146,8 @@ fn at<'a>(store: &str, calls: u64, tear: &'a str) -> Option<DeviceStops<'a>> {
     }
 }
 
-fn said(alloc: Global, sums: &Sums) -> Result<String, NoMemory> {
-    let Sums {
+fn said(alloc: Global, sums: &MomentSums) -> Result<String, NoMemory> {
+    let MomentSums {
         stopped,
         early,
         runs,
@@ -183,7 +183,7 @@ fn stop_behind<T: Threads + Wait + Eprint + Sync>(
     alloc: Global,
     words: (&str, &str, &str),
     calls: u64,
-    sums: &mut Sums,
+    sums: &mut MomentSums,
 ) -> Result<Option<bool>, NoMemory> {
     let (begin, store, tear) = words;
     let Some(stops) = at(store, calls, tear) else {
@@ -200,7 +200,7 @@ fn stop_each<T: Threads + Wait + Eprint + Sync>(
     rt: &T,
     alloc: Global,
     words: (&str, &str, &str),
-    sums: &mut Sums,
+    sums: &mut MomentSums,
 ) -> Result<bool, NoMemory> {
     for calls in 0..1_000 {
         match stop_behind(rt, alloc, words, calls, sums)? {
@@ -217,11 +217,11 @@ fn sum_up<T: Threads + Wait + Eprint + Sync>(
     rt: &T,
     alloc: Global,
     row: &str,
-) -> Result<Option<Sums>, NoMemory> {
+) -> Result<Option<MomentSums>, NoMemory> {
     let Some(words) = series(row) else {
         return Ok(None);
     };
-    let mut sums = Sums {
+    let mut sums = MomentSums {
         stopped: 0,
         early: 0,
         runs: 0,

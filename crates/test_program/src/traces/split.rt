@@ -17,7 +17,7 @@ const OPTS: ReadOpts = ReadOpts {
 };
 
 #[derive(Clone, Copy, Drop)]
-pub(crate) struct Split {
+pub(crate) struct SplitTrace {
     pub(crate) count: u64,
 }
 
@@ -52,7 +52,7 @@ fn offers_of(alloc: Global, message: &Message, both: bool) -> Result<Vec<Offer>,
     Ok(offers)
 }
 
-impl Router for Split {
+impl Router for SplitTrace {
     ghost inlets = { λ _. 1 };
 
     ghost dests = { λ _. 2 };

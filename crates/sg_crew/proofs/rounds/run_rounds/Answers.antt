@@ -30,6 +30,7 @@ loop-left-init g c =
       dests = c.requires.dests;
       all_sources = refl;
       all_dests = refl;
+      world = refl;
       run = subst (λ n. HasRun source dest c.args.first.now as' as' bs bs n c.args.rounds) zero
           (run-none source dest (SourceTakes state offers inlets dests) (DestTakes g.O.Outlet.state)
           (source-none state offers inlets dests) (dest-none g.O.Outlet.state) (source-more state offers inlets dests) (dest-more g.O.Outlet.state)
@@ -82,6 +83,7 @@ loop-left-preserved g c =
       dests = e.crew.dests;
       all_sources = e.crew.all_sources ∙ i.all_sources;
       all_dests = e.crew.all_dests ∙ i.all_dests;
+      world = c.look_if_due.ensures ∙ i.world;
       run = subst (λ k. HasRun source dest c.take_phase-phase.new.first (actors_of c.args.sources.now.items) (actors_of c.take_phase-phase.new.sources.items)
           (actors_of c.args.dests.now.items) (actors_of c.take_phase-phase.new.dests.items) k left') number
           (run-more source dest (SourceTakes state offers inlets dests) (DestTakes g.O.Outlet.state)
@@ -131,3 +133,12 @@ returns-clause-served g c =
     run-spent (SourceTook g.I.Inlet.state g.R.Router.offers g.R.Router.inlets g.R.Router.dests) (DestTook g.O.Outlet.state) c.loop-left.first
     (actors_of c.args.sources.now.items) (actors_of c.loop-left.sources.items) (actors_of c.args.dests.now.items) (actors_of c.loop-left.dests.items)
     (c.args.rounds - c.loop-left.left) c.loop-left.left c.args.rounds i.run (omega (arith, over)) (omega (arith, over)) c.requires.some
+
+pub returns-then-phase-clause-world : goal.returns-then-phase-clause-world
+returns-then-phase-clause-world g c = c.look_if_due.ensures ∙ c.loop-left.invariant.world
+
+pub returns-then-phase-eq0-clause-world : goal.returns-then-phase-eq0-clause-world
+returns-then-phase-eq0-clause-world g c = c.look_if_due.ensures ∙ c.loop-left.invariant.world
+
+pub returns-clause-world : goal.returns-clause-world
+returns-clause-world g c = c.loop-left.invariant.world

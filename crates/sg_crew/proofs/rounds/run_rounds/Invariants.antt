@@ -19,6 +19,7 @@ invariant-loop-left g l = record {
   dests : AreDests g.O.Outlet.state (setup_of l.hub.made) (actors_of l.dests.items);
   all_sources : length l.sources.items ≡ length l.initial.sources.items;
   all_dests : length l.dests.items ≡ length l.initial.dests.items;
+  world : g.W.Machine.state l.world ≡ g.W.Machine.state l.initial.world;
   run : HasRun (SourceTook g.I.Inlet.state g.R.Router.offers g.R.Router.inlets g.R.Router.dests) (DestTook g.O.Outlet.state) l.first
       (actors_of l.initial.sources.items) (actors_of l.sources.items) (actors_of l.initial.dests.items) (actors_of l.dests.items) (l.fn.rounds - l.left) l.left;
 }

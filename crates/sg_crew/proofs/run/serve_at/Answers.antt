@@ -85,3 +85,6 @@ pub returns-clause-setup : goal.returns-clause-setup
 returns-clause-setup g c =
     let e = c.run_rounds-ended.ensures in
     setup-stays c.args.hub c.run_rounds-ended.new.first c.close-core.result e.first.ordered e.first.sum c.close-core.ensures
+
+pub returns-clause-world : goal.returns-clause-world
+returns-clause-world g c = c.look_last.ensures ∙ c.run_rounds-ended.ensures.world

@@ -9,7 +9,13 @@ pub shape_of-worker : goal.shape_of-worker
 shape_of-worker g c =
     let state = g.I.Inlet.state in
     let a = c.args.worker.now.actor in
-    sym (read-lent (g.R.Router.offers a.router) (g.R.Router.dests a.router) a.spec _ c.turn.new.counter (source_seen state a) (source_seen state c.turn.new.self) c.turn.result c.turn.ensures.turn).back
+    sym (read-lent (g.R.Router.offers a.router) (g.R.Router.dests a.router) a.spec _ c.turn.new.counter (source_seen state a) (source_seen state c.turn.new.self) c.turn.result c.turn.ensures.turn).back.1
+
+pub shape_of-worker-2 : goal.shape_of-worker-2
+shape_of-worker-2 g c =
+    let state = g.I.Inlet.state in
+    let a = c.args.worker.now.actor in
+    sym (read-lent (g.R.Router.offers a.router) (g.R.Router.dests a.router) a.spec _ c.turn.new.counter (source_seen state a) (source_seen state c.turn.new.self) c.turn.result c.turn.ensures.turn).back.0
 
 pub returns : goal.returns
 returns g c =

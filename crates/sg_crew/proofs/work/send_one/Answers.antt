@@ -8,7 +8,13 @@ pub shape_of-worker : goal.shape_of-worker
 shape_of-worker g c =
     let state = g.O.Outlet.state in
     let a = c.args.worker.now.actor in
-    sym (send-lent a.spec _ c.turn.new.counter a.outage c.turn.new.self.outage (state a.outlet) (state c.turn.new.self.outlet) c.turn.result c.turn.ensures.turn).back
+    sym (send-lent a.spec _ c.turn.new.counter a.outage c.turn.new.self.outage (state a.outlet) (state c.turn.new.self.outlet) c.turn.result c.turn.ensures.turn).back.1
+
+pub shape_of-worker-2 : goal.shape_of-worker-2
+shape_of-worker-2 g c =
+    let state = g.O.Outlet.state in
+    let a = c.args.worker.now.actor in
+    sym (send-lent a.spec _ c.turn.new.counter a.outage c.turn.new.self.outage (state a.outlet) (state c.turn.new.self.outlet) c.turn.result c.turn.ensures.turn).back.0
 
 pub returns : goal.returns
 returns g c =

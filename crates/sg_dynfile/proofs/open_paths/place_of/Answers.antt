@@ -1,6 +1,7 @@
 use Rattle.std.proofs.Common.{◌≡◌, ◌<◌, ◌∙◌, [], length, get_or, true, false, bytes_eq, ap, sym, List, ℕ, rules}
 use Rattle.std.proofs.lemmas.List.{get_or_default}
-use Rattle.sg_dynfile.proofs.Names.{without-other, found, other-more}
+use Rattle.sg_dynfile.proofs.Names.{found, other-more}
+use Rattle.sg_device.proofs.PathLemmas.{without-other}
 use Rattle.sg_dynfile.proofs.open_paths.place_of.Goals as goal
 
 pub returns-then-is_same : goal.returns-then-is_same

@@ -6,5 +6,5 @@ use Rattle.sg_hint.proofs.listed.path_refusal.Goals as goal
 
 pub returns : goal.returns
 returns c = subst (λ found. IsCompiled c.args.config.now found) (sym c.err.ensures.value)
-    (compiled-by c.args.config.now (refusing_machine c.new-patterns.result.too_large) (refusing_machine c.compile.new.builder.too_large) c.compile.result
+    (compiled-by c.args.config.now (refusing_machine c.args.patterns.now.too_large) (refusing_machine c.compile.new.builder.too_large) c.compile.result
     c.compile.ensures.valid c.compile.ensures.bound c.compile.ensures.refused)

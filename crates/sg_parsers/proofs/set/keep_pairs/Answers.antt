@@ -1,5 +1,6 @@
 use Rattle.std.proofs.Common.{◌∙◌}
-use Rattle.sg_parsers.proofs.Walks.{name-of, pair-on}
+use Rattle.sg_parsers.proofs.Walks.{pair-on}
+use Rattle.sg_msg.proofs.PairWalks.{name-of}
 use Rattle.sg_parsers.proofs.set.keep_pairs.Goals as goal
 
 pub keep-requires : goal.keep-requires

@@ -1,7 +1,7 @@
 use Rattle.std.proofs.Common.{ℕ, List, take, sym, ap, ◌∙◌}
 use Rattle.sg_msg.specs.Message.{with_tag}
 use Rattle.sg_msg.specs.Build.{Build}
-use Rattle.sg_parsers.proofs.Walks.{tag-next, tags-end}
+use Rattle.sg_msg.proofs.TagWalks.{tag-next, tags-end}
 use Rattle.sg_parsers.proofs.set.keep_tags.Goals as goal
 
 pub loop-tag-preserved : goal.loop-tag-preserved

@@ -1,6 +1,6 @@
 use Rattle.std.proofs.Common.{◌∙◌}
-use Rattle.sg_rewrite.proofs.Walks.{name-of}
 use Rattle.sg_rewrite.proofs.Unpicked.{pair-on}
+use Rattle.sg_msg.proofs.PairWalks.{name-of}
 use Rattle.sg_rewrite.proofs.anew.keep_pairs.Goals as goal
 
 pub keep-requires : goal.keep-requires

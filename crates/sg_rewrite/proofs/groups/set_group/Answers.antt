@@ -1,7 +1,8 @@
 use Rattle.std.proofs.Common.{◌+◌, drop, ap, sym, ◌∙◌}
 use Rattle.sg_msg.specs.Message.{Content}
 use Rattle.sg_rewrite.specs.Rewritten.{set_each}
-use Rattle.sg_rewrite.proofs.Walks.{set-step, name-of}
+use Rattle.sg_rewrite.proofs.Walks.{set-step}
+use Rattle.sg_msg.proofs.PairWalks.{name-of}
 use Rattle.sg_rewrite.proofs.groups.set_group.Goals as goal
 
 pub set_picked-requires : goal.set_picked-requires

@@ -2,7 +2,8 @@ use Rattle.std.proofs.Common.{◌≡◌, ℕ, ◌+◌, ◌-◌, if◌then◌else
 use Rattle.sg_msg.specs.Message.{Content}
 use Rattle.sg_rewrite.specs.Values.{without_value}
 use Rattle.sg_rewrite.specs.Rewritten.{is_picked, unset_each}
-use Rattle.sg_rewrite.proofs.Walks.{unset-step, name-of}
+use Rattle.sg_rewrite.proofs.Walks.{unset-step}
+use Rattle.sg_msg.proofs.PairWalks.{name-of}
 use Rattle.sg_rewrite.proofs.groups.unset_few.Goals as goal
 
 pub unset_picked-requires : goal.unset_picked-requires

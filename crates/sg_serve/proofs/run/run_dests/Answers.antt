@@ -3,6 +3,7 @@ use Rattle.std.specs.Prelude.{IfOk, IfSome}
 use Rattle.std.proofs.lemmas.List.{append-nil, length-map}
 use Rattle.sg_standing.specs.States.{setup_of}
 use Rattle.sg_serve.specs.Counts.{AreCountsOf}
+use Rattle.sg_serve.specs.Devices.{OpensOutlets, outlets_asked}
 use Rattle.sg_serve.specs.Exits.{exit_of}
 use Rattle.sg_core.proofs.Faults.{calls-go}
 use Rattle.sg_serve.proofs.RunLemmas.{are-dests, ok-some}
@@ -53,7 +54,7 @@ returns g c =
     subst (λ xs. IfOk c.count_all.result (AreCountsOf core xs dests)) c.deref.ensures.value (subst (λ ys. IfOk c.count_all.result (AreCountsOf core c.deref.result.now ys)) c.deref-2.ensures.value c.count_all.ensures) in
     record {
       outlets_opened = map (λ a. d a.outlet) c.in-Ok.dests.items;
-      opens = c.in-Ok.ensures.opened;
+      opens = subst (λ w. OpensOutlets (g.W.Machine.state c.args.world.now) w (outlets_asked c.args.once c.args.outlets.items) (map (λ a. d a.outlet) c.in-Ok.dests.items)) (sym c.serve-ended.ensures.world) c.in-Ok.ensures.opened;
       last = core;
       closes_stores = c.into_stores-2.ensures;
       ends = record {

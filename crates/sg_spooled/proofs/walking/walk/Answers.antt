@@ -1,5 +1,6 @@
 use Rattle.std.proofs.Common.{arith}
-use Rattle.sg_spooled.proofs.WalkLemmas.{err-is, counts-of, walk-first, walk-left, walk-next, walk-stopped, walk-whole}
+use Rattle.sg_spooled.proofs.WalkLemmas.{counts-of, walk-first, walk-left, walk-next, walk-stopped, walk-whole}
+use Rattle.sg_output.proofs.Sayings.{err-is}
 use Rattle.sg_spooled.proofs.walking.walk.Goals as goal
 
 pub loop-number-init : goal.loop-number-init

@@ -3,14 +3,14 @@ use Rattle.std.proofs.lemmas.List.{append_assoc}
 use Rattle.sg_filter.specs.Patterns.{joined, patterns_within}
 use Rattle.sg_filter.specs.declared.expr.Expr.{Expr}
 use Rattle.sg_table.specs.Patterns.{rules_patterns, siblings_patterns}
-use Rattle.sg_table.specs.declared.listing.Listing.{Listing}
+use Rattle.sg_table.specs.declared.listing.PatternListing.{PatternListing}
 use Rattle.sg_table.proofs.Listed.{begins, pushes-more, pushes-one}
 use Rattle.sg_table.proofs.listing.begun.Goals as goal
 
 pub returns : goal.returns
 returns c =
     let named = c.args.forest.now.filters.items in
-    let start : Listing = record { found = c.new.result; waiting = c.new-2.result } in
+    let start : PatternListing = record { found = c.new.result; waiting = c.new-2.result } in
     let siblings = siblings_patterns named c.as_slice.result.now in
     let rules = rules_patterns named c.as_slice-2.result.now in
     let filters = joined (map (patterns_within (length c.as_slice-exprs.result.now) named) c.as_slice-exprs.result.now) in

@@ -2,9 +2,9 @@ use Rattle.std.proofs.Common.{List, ℕ, subst}
 use Rattle.sg_outside.specs.World.{InletOpens}
 use Rattle.sg_outside.specs.declared.request.InletSpec.TheVariants.{File}
 use Rattle.std.specs.Prelude.{true}
-use Rattle.sg_trace.proofs.Tracings.{err-is}
 use Rattle.sg_trace.proofs.Wholes.{traces-file, traces-unopened, traces-none}
 use Rattle.sg_trace.specs.declared.untraced.Untraced.TheVariants.{NoMemory}
+use Rattle.sg_output.proofs.Sayings.{err-is}
 use Rattle.sg_trace.proofs.file.trace_file.Goals as goal
 
 pub returns-in-Ok : goal.returns-in-Ok

@@ -1,5 +1,6 @@
 use Rattle.std.proofs.Common.{refl, inl, inr}
-use Rattle.sg_trace.proofs.Completing.{complete, loads-read}
+use Rattle.sg_trace.proofs.Completing.{complete}
+use Rattle.sg_loaded.proofs.Loads.{loads-read}
 use Rattle.sg_trace.proofs.input.trace_input.Goals as goal
 
 pub trace_source-requires-clause-within : goal.trace_source-requires-clause-within

@@ -6,7 +6,8 @@ use Rattle.sg_trace.specs.Pulling.{PullsTraced}
 use Rattle.sg_trace.specs.Rows.{items_in}
 use Rattle.sg_trace.specs.Taking.{IsBadIf}
 use Rattle.sg_trace.proofs.Takings.{items-count, takes-back}
-use Rattle.sg_trace.proofs.Tracings.{err-is, tracing-begun, traces-ended, traces-failed, tracing-taken, tracing-said, traces-bad}
+use Rattle.sg_trace.proofs.Tracings.{tracing-begun, traces-ended, traces-failed, tracing-taken, tracing-said, traces-bad}
+use Rattle.sg_output.proofs.Sayings.{err-is}
 use Rattle.sg_trace.proofs.opened.trace_opened.Goals as goal
 
 pub loop-pull-init : goal.loop-pull-init

@@ -1,7 +1,7 @@
 use Rattle.std.proofs.Common.{◌≤◌, ◌<◌, ◌≡◌}
 use Rattle.sg_booth.specs.Desks.{IsDeskOf}
 use Rattle.sg_standing.specs.States.{setup_of}
-use Rattle.test_hub.specs.Cores.{IsTried}
+use Rattle.test_hub.specs.Cores.{IsTriedSetup}
 use Rattle.test_hub.proofs.seats.at_seats.Given as goal
 
 abbrev pub invariant-loop-part : goal.invariant-loop-part

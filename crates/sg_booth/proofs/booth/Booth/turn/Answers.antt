@@ -1,5 +1,5 @@
 use Rattle.std.proofs.Common.{rules, ◌≡◌, ◌-◌, length, ap, ◌∙◌, subst, sym}
-use Rattle.sg_booth.specs.declared.office.Exchange.{Exchange}
+use Rattle.sg_booth.specs.declared.office.OfficeExchange.{OfficeExchange}
 use Rattle.sg_booth.specs.Lists.{Rises, entries_at}
 use Rattle.sg_booth.specs.Desks.{DeskState, ArePlacesOrdered, turned}
 use Rattle.sg_booth.specs.Seats.{desk_of, notes_in}
@@ -21,7 +21,7 @@ invariant_of-desk g c =
 pub returns : goal.returns
 returns g c =
     let t = c.serve_at-reply.ensures.turned in
-    let e : Exchange g.row.V-Call.Denot g.row.V-Reply.Denot = record { call = c.args.call; reply = c.serve_at-reply.result } in
+    let e : OfficeExchange g.row.V-Call.Denot g.row.V-Reply.Denot = record { call = c.args.call; reply = c.serve_at-reply.result } in
     let new : DeskState g.row.V.Denot g.row.V-Call.Denot g.row.V-Reply.Denot = desk_of c.into_badge.result.table_id (notes_in c.into_badge.result.views) in
     let is : new ≡ turned c.args.desk.now t.0 e = search rules in
     let rises : Rises 0 c.args.desk.now.own (length c.args.desk.now.seen) = subst (λ (d : DeskState g.row.V.Denot g.row.V-Call.Denot g.row.V-Reply.Denot). Rises 0 d.own (length d.seen)) c.desk.view_is c.desk.invariant.ordered.0 in

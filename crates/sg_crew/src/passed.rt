@@ -1,0 +1,156 @@
+// What has passed a seat so far.
+
+use crate::watch::{Offered, nothing_offered};
+use sg_counter::{CoreFront, Settled, Stored};
+use sg_device::NoMemory;
+use sg_machine::{Admission, Verdict};
+use sg_msg::Message;
+use std::alloc::Global;
+
+/// What came in through a source's seat, or was taken through a destination's.
+#[derive(Drop)]
+pub(crate) struct SeatCounts {
+    pub(crate) records: u64,
+    /// The window was full when the credit was asked for last.
+    pub(crate) full: bool,
+    /// How often it wasn't.
+    pub(crate) eased: u64,
+    /// The position that was stored last.
+    pub(crate) stored: Option<u64>,
+    /// The destinations of the offers that came in last, in order.
+    dests: Vec<u32>,
+    /// What became of all offers, by destination.
+    pub(crate) offered: Vec<Offered>,
+    pub(crate) taken: u64,
+    /// When the first of the entries that were shown last was received, or the last one, where all were taken.
+    pub(crate) oldest: Option<i64>,
+    /// When the last of them was, and how many they were.
+    newest: Option<i64>,
+    shown: usize,
+}
+
+impl SeatCounts {
+    /// Nothing has. Takes no memory.
+    pub(crate) fn new(alloc: Global) -> SeatCounts {
+        SeatCounts {
+            records: 0,
+            full: false,
+            eased: 0,
+            stored: None,
+            dests: Vec::new(alloc),
+            offered: Vec::new(alloc),
+            taken: 0,
+            oldest: None,
+            newest: None,
+            shown: 0,
+        }
+    }
+
+    /// Notes the destinations of the records' offers, none where there is no memory.
+    pub(crate) fn begin(&mut self, records: &[Admission]) {
+        self.dests.clear();
+        if list_dests(records, &mut self.dests).is_err() {
+            self.dests.clear();
+        }
+    }
+
+    /// Counts so many records, and what became of their offers.
+    pub(crate) fn end(&mut self, records: usize, verdicts: &[Verdict]) {
+        self.records = self.records.saturating_add(records as u64);
+        for at in 0..self.dests.len().min(verdicts.len()) {
+            let dest = self.dests[at];
+            count(dest as usize, verdicts[at], &mut self.offered);
+        }
+    }
+
+    /// Counts a question for the credit.
+    pub(crate) fn ask(&mut self, credit: u64) {
+        self.full = credit == 0;
+        if credit > 0 {
+            self.eased = self.eased.saturating_add(1);
+        }
+    }
+
+    /// Takes note of a position that was written.
+    pub(crate) fn store(&mut self, stored: Stored) {
+        if let Stored::Wrote(position) = stored {
+            self.stored = Some(position);
+        }
+    }
+
+    /// Takes note of the first entries that are left.
+    pub(crate) fn show(&mut self, front: &Result<CoreFront, NoMemory>) {
+        let messages = messages_of(front);
+        self.oldest = received_at(messages.first());
+        self.newest = received_at(messages.last());
+        self.shown = messages.len();
+    }
+
+    /// Counts entries that were settled.
+    pub(crate) fn settle(&mut self, count: u32, settled: Settled) {
+        if settled == Settled::NotFront {
+            return;
+        }
+        self.taken = self.taken.saturating_add(u64::from(count));
+        if count as usize >= self.shown {
+            self.oldest = self.newest;
+        }
+    }
+}
+
+fn messages_of(front: &Result<CoreFront, NoMemory>) -> &[Message] {
+    match front {
+        Ok(CoreFront::Entries { place: _, messages }) => messages.as_slice(),
+        _ => &[],
+    }
+}
+
+// When it was received, in microseconds since 1970.
+fn received_at(message: Option<&Message>) -> Option<i64> {
+    Some(message?.received().at)
+}
+
+fn list_dests(records: &[Admission], dests: &mut Vec<u32>) -> Result<(), NoMemory> {
+    for record in records {
+        for offer in record.offers.as_slice() {
+            dests.push(offer.dest)?;
+        }
+    }
+    Ok(())
+}
+
+// With one more verdict.
+fn counted(offered: Offered, verdict: Verdict) -> Offered {
+    match verdict {
+        Verdict::DroppedFull => Offered {
+            kept: offered.kept,
+            dropped_full: offered.dropped_full.saturating_add(1),
+            dropped_disk: offered.dropped_disk,
+        },
+        Verdict::DroppedDisk => Offered {
+            kept: offered.kept,
+            dropped_full: offered.dropped_full,
+            dropped_disk: offered.dropped_disk.saturating_add(1),
+        },
+        _ => Offered {
+            kept: offered.kept.saturating_add(1),
+            dropped_full: offered.dropped_full,
+            dropped_disk: offered.dropped_disk,
+        },
+    }
+}
+
+// Room for so many destinations, where there is memory.
+fn room_for(dest: usize, offered: &mut Vec<Offered>) -> Result<(), NoMemory> {
+    for _more in offered.len()..dest.saturating_add(1).min(128) {
+        offered.push(nothing_offered())?;
+    }
+    Ok(())
+}
+
+fn count(dest: usize, verdict: Verdict, offered: &mut Vec<Offered>) {
+    if room_for(dest, offered).is_err() || dest >= offered.len() {
+        return;
+    }
+    offered[dest] = counted(offered[dest], verdict);
+}
