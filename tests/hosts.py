@@ -7,7 +7,7 @@ Records of hosts by chance are appended to a file, which goes by a log path with
 host; folders are made. Each run is killed (SIGKILL) at a moment within half a second, while lines are appended. None may end before
 it is killed. At the end a run with `--once` must end with status 0, and then the file of each host has each of its records whole, in
 their order, and nothing else, but that a record may stand there again, and that a kill within a write leaves the beginning of a record,
-behind which the next line stands. No more than 64 files may be open at any look.
+behind which the next line stands. No more than 128 files may be open at any look.
 
 It says how many runs were killed, how many records and files there were, how many records stood there again, and the most files that
 were open. It ends with status 1 where a record is lost, out of order or in another file, or a run ended by itself.
@@ -27,7 +27,7 @@ source s { file("in"); };
 destination d { file("hosts/$HOST/all.log" template("$MSGHDR$MSG\\n") create-dirs(yes)); };
 log { source(s); destination(d); flags(flow-control); };
 """
-MOST_OPEN = 64
+MOST_OPEN = 128
 
 
 class Records:

@@ -619,7 +619,7 @@ mkdir -p named/one
 named 'named/$HOST/log' >c4
 of_hosts one none one >in
 lacks='destination named/none/log: cannot open: No such file or directory (os error 2)\n'
-told="$lacks$lacks$lacks"
+told=$lacks
 expect 'a folder that a message lacks' 6 "$(report 3 36 1 2 'fault sink 0\n' 6)" - run c4 --once
 same 'the file before it' 'of one\n' named/one/log
 mkdir named/none
@@ -680,7 +680,7 @@ if [ "$(id -u)" = 0 ] && chown 65534 . && ./nobody --help >/dev/null 2>&1; then
     beside '$HOST/log' >c4
     in_turn open closed >in
     denied='destination closed/log: cannot open: Permission denied (os error 13)\n'
-    told="$denied$denied$denied"
+    told=$denied
     again 'a folder without leave' 6 "$(both 101 41 1 100 'fault sink 0\n' 6)" - run c4 --once
     same 'the file in another folder' 'line 00000\n' open/log
     chown 65534 closed
@@ -692,7 +692,7 @@ if [ "$(id -u)" = 0 ] && chown 65534 . && ./nobody --help >/dev/null 2>&1; then
     chown 0 closed
     beside 'closed/$HOST/log' | sed 's/"closed[^)]*)/& create-dirs(yes)/' >c5
     denied='destination closed/open/log: cannot open: Permission denied (os error 13)\n'
-    told="$denied$denied$denied"
+    told=$denied
     again 'a folder that may not be made' 6 "$(both 100 0 0 100 'fault sink 0\n' 6)" - run c5 --once
     [ -z "$(ls -A closed)" ] && passed=$((passed + 1)) || { failed=$((failed + 1)); echo 'a folder that may not be made: it was'; }
     # One path is opened at the start: nothing is read, and nothing written.

@@ -4,6 +4,7 @@ use bytes::Bytes;
 use sg_frame::FrameKind;
 use sg_msg::Message;
 use sg_outfmt::{DriverKind, Shape, default_shape, frame};
+use sg_r5424::SdNames;
 use sg_template::Env;
 use std::alloc::{AllocError, Global};
 use std::io;
@@ -24,6 +25,7 @@ pub(crate) struct Converter {
     pub(crate) alloc: Global,
     pub(crate) kind: FrameKind,
     peer: Bytes,
+    names: SdNames,
     shape: Shape,
 }
 
@@ -40,15 +42,17 @@ impl Converter {
             alloc,
             kind,
             peer: Bytes::copy_from_slice(alloc, b"peer")?,
+            names: SdNames::new(alloc),
             shape: default_shape(alloc, driver)?,
         }))
     }
 
-    fn message(&self, item: Bytes) -> io::Result<Message> {
+    fn message(&mut self, item: Bytes) -> io::Result<Message> {
         match self.kind {
             FrameKind::Lines => Ok(sg_r3164::read(self.alloc, item, PULLED, &self.peer, &OPTS)?),
             FrameKind::Counted => {
-                match sg_r5424::read(self.alloc, item, PULLED, &self.peer, &OPTS) {
+                let names = &mut self.names;
+                match sg_r5424::read(self.alloc, names, item, PULLED, &self.peer, &OPTS) {
                     Ok(message) => Ok(message),
                     Err(_) => Err(io::Error::from(io::ErrorKind::InvalidData)),
                 }
@@ -57,7 +61,7 @@ impl Converter {
     }
 
     /// Appends the frame of a record.
-    pub(crate) fn append_frame(&self, item: Bytes, out: &mut Vec<u8>) -> io::Result<()> {
+    pub(crate) fn append_frame(&mut self, item: Bytes, out: &mut Vec<u8>) -> io::Result<()> {
         let message = self.message(item)?;
         frame(&self.shape, &message, &ENV, out)?;
         Ok(())

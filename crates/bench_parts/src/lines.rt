@@ -15,7 +15,11 @@ const LIMIT: u32 = 1 << 21;
 const PIECE: usize = 16_384;
 
 // Appends the frame of each record that is whole, and says how many they were.
-fn append_frames(converter: &Converter, framer: &mut Framer, out: &mut Vec<u8>) -> io::Result<u64>
+fn append_frames(
+    converter: &mut Converter,
+    framer: &mut Framer,
+    out: &mut Vec<u8>,
+) -> io::Result<u64>
     ensures { OnOk result (fed framer.new ≡ fed framer.old) }
 {
     for count in 0..u64::MAX {
@@ -40,7 +44,7 @@ fn feed(framer: &mut Framer, piece: &[u8], before: u64) -> Result<u64, AllocErro
 }
 
 // Makes the frames of all records of a file, and says how many they were.
-fn convert(converter: &Converter, mut from: File, mut to: File) -> io::Result<u64> {
+fn convert(converter: &mut Converter, mut from: File, mut to: File) -> io::Result<u64> {
     let alloc = converter.alloc;
     let mut framer = Framer::new(alloc, converter.kind, LIMIT)?;
     let mut piece = vec![in alloc; 0u8; PIECE]?;
@@ -61,7 +65,7 @@ fn convert(converter: &Converter, mut from: File, mut to: File) -> io::Result<u6
 }
 
 // Writes the frames of a file to another one, and says how many they were.
-fn write(rt: HostRuntime, converter: &Converter, from: &str, to: &str) -> io::Result<bool> {
+fn write(rt: HostRuntime, converter: &mut Converter, from: &str, to: &str) -> io::Result<bool> {
     let count = convert(converter, File::open(&rt, from)?, File::create(&rt, to)?)?;
     println!(rt; "{count}")?;
     Ok(true)
@@ -69,8 +73,8 @@ fn write(rt: HostRuntime, converter: &Converter, from: &str, to: &str) -> io::Re
 
 /// The frames of a file in another one. Whether the form is one.
 pub(crate) fn run(rt: HostRuntime, form: &str, from: &str, to: &str) -> io::Result<bool> {
-    let made = Converter::new(rt.alloc(), form)?;
-    match &made {
+    let mut made = Converter::new(rt.alloc(), form)?;
+    match &mut made {
         Some(converter) => write(rt, converter, from, to),
         None => Ok(false),
     }

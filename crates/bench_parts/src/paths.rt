@@ -8,6 +8,7 @@ use crate::record::RECORD;
 use bytes::Bytes;
 use sg_pattern::Patterns;
 use sg_pipes::{Pipes, names_within};
+use sg_r5424::SdNames;
 use sg_route::Router;
 use sg_table::{Table, compile};
 use sg_tree::{Forest, read_item};
@@ -18,8 +19,9 @@ fn read(alloc: Global, turns: u64) -> Result<bool, AllocError> {
     let rule = inlet(alloc);
     let item = Bytes::copy_from_slice(alloc, RECORD)?;
     let peer = Bytes::copy_from_slice(alloc, b"peer")?;
+    let mut names = SdNames::new(alloc);
     for _ in 0..turns {
-        read_item(alloc, &rule, item.clone()?, 0, &peer)?;
+        read_item(alloc, &rule, &mut names, item.clone()?, 0, &peer)?;
     }
     Ok(true)
 }

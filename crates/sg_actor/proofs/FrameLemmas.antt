@@ -6,7 +6,7 @@ use Rattle.std.specs.Prelude.{nat_le, if◌then◌else◌}
 use Rattle.sg_device.specs.Frames.{cut, total}
 use Rattle.sg_device.proofs.FrameLemmas.{cut-append, total-append}
 use Rattle.sg_msg.specs.Message.{Content}
-use Rattle.sg_actor.specs.Rendering.{frame_by, frames_by, until, sent_of}
+use Rattle.sg_actor.specs.Rendering.{frame_by, frames_by, most_bytes, most_entries, until, sent_of}
 use Rattle.sg_actor.specs.declared.rendering.DestSpec.{DestSpec}
 
 next-of : (xs : List Content) (i : ℕ) (m : Content) → i < length xs → m ≡ get_or xs i m → drop i xs ≡ m ∷ drop (i + 1) xs
@@ -74,8 +74,8 @@ pub until-few : (left : ℕ) (fs : List (List ℕ)) → length (until left fs) �
 until-few left [] = omega arith
 until-few left (f ∷ fs) = few-by (nat_le left (length f)) f (until (left - length f) fs) fs (until-few (left - length f) fs)
 
-pub sent-few : (spec : DestSpec) (messages : List Content) → length (sent_of spec messages) ≤ 100
-sent-few spec messages = omega (arith, until-few 262144 (frames_by spec (take 100 messages)), length-map (take 100 messages) (frame_by spec), length-take 100 messages)
+pub sent-few : (spec : DestSpec) (messages : List Content) → length (sent_of spec messages) ≤ most_entries
+sent-few spec messages = omega (arith, until-few most_bytes (frames_by spec (take most_entries messages)), length-map (take most_entries messages) (frame_by spec), length-take most_entries messages)
 
 absurd-cons : {x : List ℕ} {xs : List (List ℕ)} → x ∷ xs ≡ [] → ⊥
 absurd-cons h = cc h
@@ -105,4 +105,4 @@ map-first spec (suc k) (suc n) (m ∷ ms) few = ap (λ r. frame_by spec m ∷ r)
 
 pub sent-first : (spec : DestSpec) (k : ℕ) (messages : List Content) → k ≤ length (sent_of spec messages) → take k (sent_of spec messages) ≡ take k (frames_by spec messages)
 sent-first spec k messages few =
-    until-first 262144 k (frames_by spec (take 100 messages)) few ∙ map-first spec k 100 messages (omega (arith, sent-few spec messages))
+    until-first most_bytes k (frames_by spec (take most_entries messages)) few ∙ map-first spec k most_entries messages (omega (arith, sent-few spec messages))

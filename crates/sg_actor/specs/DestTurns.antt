@@ -14,7 +14,7 @@ use Rattle.sg_counter.specs.declared.answers.CoreFront.TheVariants.{Entries, Emp
 use Rattle.sg_counter.specs.declared.answers.Settled.TheVariants.{Done, DiskFailed}
 use Rattle.sg_counter.specs.declared.answers.Refill.TheVariants.{Broken as RefillBroken}
 use Rattle.sg_actor.specs.Bringing.{AllBy}
-use Rattle.sg_actor.specs.Rendering.{frames_by, sent_of}
+use Rattle.sg_actor.specs.Rendering.{frames_by, most_entries, sent_of}
 use Rattle.sg_actor.specs.Outages.{HasFailures, TakesFrames, Waits, is_idle, broken}
 use Rattle.sg_actor.specs.declared.outage.Outage.{Outage}
 use Rattle.sg_actor.specs.declared.rendering.DestSpec.{DestSpec}
@@ -74,10 +74,14 @@ FollowsFront d taken count well (FrontReply (Ok (Entries place (m ∷ ms)))) mad
     taken count well made
 FollowsFront d taken count well reply made = (made ≡ []) × (taken ≡ 0)
 
--- the first entries are asked for, at most 100, and what was taken of them is settled; or no call is made
+-- so many of the first entries are asked for
+abbrev pub AsksFront : ℕ → CoreCall → Type 0
+AsksFront d call = (most : ℕ) × (call ≡ Front d most) × (most ≤ most_entries)
+
+-- the first entries are asked for, and what was taken of them is settled; or no call is made
 abbrev pub DeliversFront : (d taken count : ℕ) → Bool → List Exchange → Type 0
 DeliversFront d taken count well [] = taken ≡ 0
-DeliversFront d taken count well (f ∷ made) = (f.call ≡ Front d 100)
+DeliversFront d taken count well (f ∷ made) = AsksFront d f.call
     × FollowsFront d taken count well f.reply made
 
 -- Why a destination is given up: its outlet failed three times in a row, or the store of its disk-buffer failed.

@@ -16,6 +16,14 @@ abbrev pub until : ℕ → List (List ℕ) → List (List ℕ)
 until left [] = []
 until left (f ∷ fs) = f ∷ (if nat_le left (length f) then [] else until (left - length f) fs)
 
--- the frames that are sent: of 100 messages at most, until they are 262,144 bytes or more
+-- how many entries a turn asks for at most
+abbrev pub most_entries : ℕ
+most_entries = 1000
+
+-- the frames of a turn are together fewer bytes, but for the last one
+abbrev pub most_bytes : ℕ
+most_bytes = 262144
+
+-- the frames that are sent: of so many messages at most, until they are so many bytes or more
 abbrev pub sent_of : DestSpec → List Content → List (List ℕ)
-sent_of spec messages = until 262144 (frames_by spec (take 100 messages))
+sent_of spec messages = until most_bytes (frames_by spec (take most_entries messages))

@@ -60,7 +60,7 @@ fn admit<T: Wait, C: Counter>(
 }
 
 /// What became of what was read.
-#[derive(Clone, Copy, Debug, PartialEq, Eq, Drop)]
+#[derive(Clone, Copy, PartialEq, Eq, Drop)]
 pub(crate) struct Handed {
     pub(crate) admitted: bool,
     pub(crate) gave_up: bool,

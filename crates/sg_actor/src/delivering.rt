@@ -1,21 +1,41 @@
 // Entries of the core that go to an outlet.
 ghost use Rattle.std.specs.Prelude.{◌≡◌, ◌≢◌, ◌≤◌, ◌<◌, ◌+◌, false, None, [], length, is_ok};
 ghost use Rattle.sg_device.specs.Outlet.{count_of};
+ghost use Rattle.sg_actor.specs.Rendering.{most_entries};
 ghost use Rattle.sg_actor.specs.Outages.{HasFailures};
 ghost use Rattle.sg_actor.specs.DestTurns.{HasDelivered, idle_in};
 ghost use Rattle.sg_actor.specs.Delivering.{Settles, Refills, FrontTurnGives};
 
 use crate::Turned;
 use crate::outage::{Outage, send};
-use crate::rendering::{DestSpec, render};
+use crate::rendering::{DestSpec, ENOUGH, MOST, render};
 use sg_counter::{CoreFront, Counter, Refill, Settled, Settler};
 use sg_device::{Frames, NoMemory, Outlet, Taken};
 use sg_msg::Message;
 use std::alloc::{AllocError, Global};
 use std::sync::Wait;
 
-/// How many entries a turn asks for.
-const ENTRIES: u32 = 100;
+// How many entries a turn asks for, where fewer than that were sent last.
+const FEW: usize = 100;
+
+/// How many entries a turn asks for: where those that were sent last were bytes enough for a send, some
+/// more than these, since others would be read in vain; else many more. One where it was too early for
+/// all of those, since it may be again.
+fn entries(last: &Frames, waits: bool) -> u32
+    ensures some { 0 < result }
+    ensures most { result ≤ most_entries }
+{
+    if waits {
+        return 1;
+    }
+    let sent = last.len();
+    let asked = if last.bytes().len() >= ENOUGH {
+        sent.saturating_add(sent / 8).saturating_add(1)
+    } else {
+        sent.saturating_mul(2).saturating_add(FEW)
+    };
+    asked.min(MOST) as u32
+}
 
 /// Settles the entries whose frames were taken. Tells whether the destination may go on.
 fn settle<T: Wait, O: Outlet, C: Settler<O>>(
@@ -114,7 +134,7 @@ fn flush<O: Outlet>(outlet: &mut O) -> Turned
 }
 
 /// Takes the first entries of the destination to its outlet. It did something where there were any,
-/// unless it was too early for all of them: then it was idle. Where there are none, what the outlet
+/// unless it was too early for all of them: then it was idle, and waits. Where there are none, what the outlet
 /// still holds of those before is sent on.
 pub(crate) fn deliver_front<T: Wait, O: Outlet, C: Settler<O>>(
     rt: &T,
@@ -123,6 +143,7 @@ pub(crate) fn deliver_front<T: Wait, O: Outlet, C: Settler<O>>(
     spec: &DestSpec,
     outlet: &mut O,
     frames: &mut Frames,
+    waits: &mut bool,
     outage: &mut Outage,
 ) -> Result<Turned, NoMemory>
     requires left { 3 ≤ C.left counter.old }
@@ -135,7 +156,7 @@ pub(crate) fn deliver_front<T: Wait, O: Outlet, C: Settler<O>>(
     ensures setup { C.setup counter.new ≡ C.setup counter.old }
     ensures left { C.left counter.old ≤ C.left counter.new + 3 }
 {
-    match counter.front(rt, alloc, spec.dest, ENTRIES)? {
+    match counter.front(rt, alloc, spec.dest, entries(frames, *waits))? {
         CoreFront::Entries { place, messages } => {
             if messages.is_empty() {
                 return Ok(flush(outlet));
@@ -151,6 +172,7 @@ pub(crate) fn deliver_front<T: Wait, O: Outlet, C: Settler<O>>(
                 place,
                 messages.as_slice(),
             )?;
+            *waits = idle;
             Ok(Turned { did: !idle, idle })
         }
         CoreFront::Empty => Ok(flush(outlet)),

@@ -21,6 +21,8 @@ pub struct DestActor<O> {
     spec: DestSpec,
     /// The frames that were sent last, for their memory.
     frames: Frames,
+    /// It was too early for all of them.
+    waits: bool,
     outage: Outage,
 }
 
@@ -51,6 +53,7 @@ impl<O: Outlet> DestActor<O> {
                 gives_up,
             },
             frames: Frames::new(alloc),
+            waits: false,
             outage: Outage {
                 reopens: false,
                 failures: 0,
@@ -103,6 +106,7 @@ impl<O: Outlet> DestActor<O> {
                     &self.spec,
                     &mut self.outlet,
                     &mut self.frames,
+                    &mut self.waits,
                     &mut self.outage,
                 )?;
                 Ok(Turned {
@@ -118,6 +122,7 @@ impl<O: Outlet> DestActor<O> {
                     &self.spec,
                     &mut self.outlet,
                     &mut self.frames,
+                    &mut self.waits,
                     &mut self.outage,
                 )?;
                 Ok(given)
@@ -147,6 +152,7 @@ impl<O: Outlet> DestActor<O> {
             outlet,
             spec: _,
             frames: _,
+            waits: _,
             outage: _,
         } = self;
         outlet

@@ -1,5 +1,6 @@
 // What a destination knows of its outlet's failures.
 ghost use Rattle.std.specs.Prelude.{◌≡◌, ◌≢◌, ◌≤◌, false, None, [], length};
+ghost use Rattle.sg_actor.specs.Rendering.{most_entries};
 ghost use Rattle.sg_actor.specs.Outages.{HasFailures, failed, with_taken, broken, is_idle, BeginsTurn, SendComesTo};
 
 use crate::GivenUp;
@@ -9,7 +10,7 @@ use sg_device::{Frames, Outlet, Reopened, SendRefusal};
 const FAILURES: u8 = 3;
 
 /// What a destination knows of its outlet's failures, and whether it is given up.
-#[derive(Clone, Copy, Debug, PartialEq, Eq, Drop)]
+#[derive(Clone, Copy, PartialEq, Eq, Drop)]
 pub struct Outage {
     /// The last send or reopening failed: the next turn begins with a reopening. That it was too
     /// early for a send is no failure.
@@ -52,7 +53,7 @@ impl Outage {
 }
 
 /// How a turn begins.
-#[derive(Clone, Copy, Debug, PartialEq, Eq, Drop)]
+#[derive(Clone, Copy, PartialEq, Eq, Drop)]
 pub(crate) enum BegunTurn {
     /// The outlet didn't fail last.
     Open,
@@ -84,7 +85,7 @@ pub(crate) fn reopen<O: Outlet>(outlet: &mut O, outage: &mut Outage, gives_up: b
 }
 
 /// What became of a send.
-#[derive(Clone, Copy, Debug, PartialEq, Eq, Drop)]
+#[derive(Clone, Copy, PartialEq, Eq, Drop)]
 pub(crate) struct Sent {
     /// So many of the first frames were taken.
     pub(crate) taken: u32,
@@ -103,7 +104,7 @@ impl Sent {
     }
 }
 
-/// Sends the frames, of which there are at most 100.
+/// Sends the frames of a turn.
 pub(crate) fn send<O: Outlet>(
     outlet: &mut O,
     frames: &Frames,
@@ -111,7 +112,7 @@ pub(crate) fn send<O: Outlet>(
     gives_up: bool,
 ) -> Sent
     requires some { frames.now ≢ [] }
-    requires few { length frames.now ≤ 100 }
+    requires few { length frames.now ≤ most_entries }
     requires failures { HasFailures outage.old (O.state outlet.old) }
     ensures { SendComesTo gives_up frames.now outage.old outage.new (O.state outlet.old)
         (O.state outlet.new) result }

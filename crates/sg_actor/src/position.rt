@@ -12,7 +12,7 @@ use std::sync::Wait;
 const STRIDE: u64 = 262_144;
 
 /// What a source knows of its credit, and of its position store.
-#[derive(Clone, Copy, Debug, PartialEq, Eq, Drop)]
+#[derive(Clone, Copy, PartialEq, Eq, Drop)]
 pub struct Position {
     /// The credit of the turn before, once there was one.
     pub(crate) credit: Option<u64>,

@@ -17,7 +17,7 @@ use std::alloc::Global;
 use std::sync::Wait;
 
 /// What there is for the core.
-#[derive(Clone, Copy, Debug, PartialEq, Eq, Drop)]
+#[derive(Clone, Copy, PartialEq, Eq, Drop)]
 pub(crate) enum SourceWork {
     /// Records that are held, or a bad count; or the inlet was pulled.
     Work { pulled: bool },
@@ -28,7 +28,7 @@ pub(crate) enum SourceWork {
 }
 
 /// What a source's turn did with its inlet.
-#[derive(Clone, Copy, Debug, PartialEq, Eq, Drop)]
+#[derive(Clone, Copy, PartialEq, Eq, Drop)]
 pub(crate) struct Doings {
     /// A pull brought bytes, a part or the end, or failed.
     pub(crate) pulled: bool,

@@ -1,7 +1,7 @@
 // The frames of messages.
 ghost use Rattle.std.specs.Prelude.{◌≡◌, ◌≢◌, ◌++◌, ◌∷◌, [], length, take, map, OnOk};
 ghost use Rattle.sg_device.specs.Frames.{cut, total};
-ghost use Rattle.sg_actor.specs.Rendering.{frames_by, frame_by, sent_of, until};
+ghost use Rattle.sg_actor.specs.Rendering.{frames_by, frame_by, most_bytes, most_entries, sent_of, until};
 
 use sg_device::{Frames, NoMemory};
 use sg_msg::Message;
@@ -11,13 +11,12 @@ use std::alloc::Global;
 use std::mem::replace;
 
 /// The frames of a send are so many bytes together, but for the last one, which may pass that.
-const ENOUGH: usize = 262_144;
+pub(crate) const ENOUGH: usize = 262_144;
 
 /// How many entries a turn sends at most.
-pub(crate) const MOST: usize = 100;
+pub(crate) const MOST: usize = 1000;
 
 /// What a destination is set up with.
-#[derive(Debug)]
 pub struct DestSpec {
     /// The destination's number.
     pub(crate) dest: u32,
@@ -67,7 +66,8 @@ fn fill(
     requires no_sizes { sizes.old.items ≡ [] }
     ensures whole { OnOk result (total sizes.new.items ≡ length bytes.new.items) }
     ensures frames { OnOk result
-        (cut sizes.new.items bytes.new.items ≡ until 262144 (frames_by spec.now messages.now)) }
+        (cut sizes.new.items bytes.new.items
+        ≡ until most_bytes (frames_by spec.now messages.now)) }
 {
     for message in messages {
         append(spec, message, bytes, sizes)?;
@@ -79,7 +79,7 @@ fn fill(
 }
 
 fn first(messages: &[Message]) -> &[Message]
-    ensures { result.now ≡ take 100 messages.now }
+    ensures { result.now ≡ take most_entries messages.now }
 {
     if messages.len() > MOST {
         &messages[..MOST]
@@ -88,7 +88,8 @@ fn first(messages: &[Message]) -> &[Message]
     }
 }
 
-/// Puts the frames of the first messages, 100 at most, in the place of those that were sent last.
+/// Puts the frames of the first messages, as many as a turn sends at most, in the place of those that
+/// were sent last.
 pub(crate) fn render(
     alloc: Global,
     spec: &DestSpec,

@@ -3,7 +3,7 @@
 use sg_frame::FrameKind;
 
 /// What a source is set up with.
-#[derive(Clone, Copy, Debug, PartialEq, Eq, Drop)]
+#[derive(Clone, Copy, PartialEq, Eq, Drop)]
 pub struct SourceSpec {
     /// The inlet's number.
     pub inlet: u32,

@@ -7,7 +7,7 @@ use sg_codec::{Kept, encoded_len};
 use std::alloc::{AllocError, Global};
 
 /// An entry without its message: what a core keeps of one that stands on the disk.
-#[derive(Clone, Copy, Debug, PartialEq, Eq, Drop)]
+#[derive(Clone, Copy, PartialEq, Eq, Drop)]
 pub struct EntryHead {
     /// The number of the inlet that its record came by.
     pub source: u32,
@@ -20,7 +20,7 @@ pub struct EntryHead {
 }
 
 /// The entries of a disk-buffer.
-#[derive(Debug, Drop)]
+#[derive(Drop)]
 pub struct BufferEntries {
     /// In the order of the list.
     pub heads: Vec<EntryHead>,

@@ -13,7 +13,7 @@ use std::alloc::{AllocError, Global};
 pub(crate) const LONGEST: usize = 1 << 30;
 
 /// Spells each entry of format 1, of at most 2^30 bytes, in format 2. Every other payload stays as it is.
-#[derive(Clone, Copy, Debug, Drop)]
+#[derive(Clone, Copy, Drop)]
 pub struct Upgrade;
 
 impl Recode for Upgrade {

@@ -4,7 +4,7 @@ use sg_msg::Message;
 use sg_time::Stamp;
 
 /// An entry of a disk-buffer: a message, and where it comes from.
-#[derive(Debug, Drop)]
+#[derive(Drop)]
 pub struct Kept {
     /// The number of the inlet that its record came by.
     pub source: u32,
@@ -16,7 +16,7 @@ pub struct Kept {
 }
 
 /// What both formats begin with.
-#[derive(Clone, Copy, Debug, Drop)]
+#[derive(Clone, Copy, Drop)]
 pub(crate) struct KeptPrefix {
     pub(crate) flow: bool,
     pub(crate) source: u32,

@@ -26,7 +26,7 @@ impl From<AllocError> for CodecRefusal {
 }
 
 /// Where reading stops.
-#[derive(Clone, Copy, Debug, Drop)]
+#[derive(Clone, Copy, Drop)]
 pub(crate) enum DecodeStop {
     /// At the first damaged byte: so many bytes stand from it on.
     Damaged(usize),

@@ -80,11 +80,7 @@ fn pair_count(message: &Message) -> u32
     requires { length message.now.pairs < 2 ^ 32 }
     ensures { result ≡ length message.now.pairs }
 {
-    let mut count = 0;
-    while message.pair(count as usize).is_some() {
-        count += 1;
-    }
-    count
+    message.pair_count() as u32
 }
 
 fn put_tags(out: &mut Vec<u8>, message: &Message) -> Result<(), AllocError>

@@ -5,7 +5,7 @@ use sg_machine::Admission;
 use sg_msg::Message;
 
 /// Why records weren't admitted. They come back.
-#[derive(Debug, Drop)]
+#[derive(Drop)]
 pub enum Refused {
     /// The source has credit for fewer: with them more of its records would be outstanding than its
     /// window has.
@@ -14,7 +14,7 @@ pub enum Refused {
 }
 
 /// What stands at the front of a destination.
-#[derive(Debug, Drop)]
+#[derive(Drop)]
 pub enum CoreFront {
     /// The first entries that are left, in order: the place of the first one among all that the
     /// destination was given, from 0, and their messages.
@@ -26,7 +26,7 @@ pub enum CoreFront {
 }
 
 /// What became of entries that a destination took.
-#[derive(Clone, Copy, Debug, PartialEq, Eq, Drop)]
+#[derive(Clone, Copy, PartialEq, Eq, Drop)]
 pub enum Settled {
     Done,
     /// The place is not that of the first entry that is left, or fewer are left. Nothing changed.
@@ -36,7 +36,7 @@ pub enum Settled {
 }
 
 /// What became of the entries that wait for room in a disk-buffer.
-#[derive(Clone, Copy, Debug, PartialEq, Eq, Drop)]
+#[derive(Clone, Copy, PartialEq, Eq, Drop)]
 pub enum Refill {
     /// So many of the first went in, 1 to 1,000.
     Moved(u32),
@@ -49,7 +49,7 @@ pub enum Refill {
 }
 
 /// What became of a position.
-#[derive(Clone, Copy, Debug, PartialEq, Eq, Drop)]
+#[derive(Clone, Copy, PartialEq, Eq, Drop)]
 pub enum Stored {
     /// It was written, and is stable.
     Wrote(u64),

@@ -6,7 +6,7 @@ use sg_list::Seq;
 use sg_machine::{Admission, Verdict};
 
 /// A call of a core. Sources and destinations go by their numbers.
-#[derive(Debug, Drop)]
+#[derive(Drop)]
 pub enum CoreCall {
     Credit(u32),
     Admit {
@@ -31,7 +31,7 @@ pub enum CoreCall {
 }
 
 /// What a core replies to the call of that name.
-#[derive(Debug, Drop)]
+#[derive(Drop)]
 pub enum CoreReply {
     Credit(u64),
     Admitted(Result<Seq<Verdict>, Refused>),

@@ -9,7 +9,7 @@ use sg_route::Router;
 use std::alloc::{AllocError, Global};
 
 /// What a source has come to so far.
-#[derive(Clone, Copy, Debug, PartialEq, Eq, Drop)]
+#[derive(Clone, Copy, PartialEq, Eq, Drop)]
 pub struct SourceLook {
     pub records: u64,
     pub bad_frames: u64,
@@ -22,7 +22,7 @@ pub struct SourceLook {
 }
 
 /// What became of the offers to a destination so far.
-#[derive(Clone, Copy, Debug, PartialEq, Eq, Drop)]
+#[derive(Clone, Copy, PartialEq, Eq, Drop)]
 pub struct Offered {
     pub kept: u64,
     pub dropped_full: u64,
@@ -30,7 +30,7 @@ pub struct Offered {
 }
 
 /// What a destination has come to so far.
-#[derive(Clone, Copy, Debug, PartialEq, Eq, Drop)]
+#[derive(Clone, Copy, PartialEq, Eq, Drop)]
 pub struct DestLook {
     pub offered: Offered,
     pub taken: u64,

@@ -15,7 +15,7 @@ const WORTH: u64 = 268_435_456;
 
 /// The records that can wait in memory at most: those of queues, which have no flow-control, and those of
 /// windows.
-#[derive(Clone, Copy, Debug, PartialEq, Eq, Drop)]
+#[derive(Clone, Copy, PartialEq, Eq, Drop)]
 pub struct MostHeld {
     pub records: u64,
     /// How many bytes the largest of them can have as it is received.

@@ -6,7 +6,7 @@ use sg_lex::ConfigFault;
 use sg_run::End;
 
 /// The answer of a command.
-#[derive(Clone, Copy, Debug, PartialEq, Eq, Drop)]
+#[derive(Clone, Copy, PartialEq, Eq, Drop)]
 pub enum Status {
     /// All was done that the words ask for, or how a run or a look at a store ended else.
     Ended(End),

@@ -20,7 +20,7 @@ use std::alloc::Global;
 
 /// The disk-buffer of a destination: the name of its store, its capacity in bytes, and whether its
 /// file is made with all the bytes that it can come to have.
-#[derive(Debug, Drop)]
+#[derive(Drop)]
 pub struct DiskBuffer {
     pub store: Name,
     pub capacity: u64,

@@ -5,7 +5,7 @@ ghost use Rattle.sg_device.specs.Inlet.{InletState, PullFills, PullTells, PullMo
 use crate::InletFault;
 
 /// What a pull brought.
-#[derive(Clone, Copy, Debug, PartialEq, Eq, Drop)]
+#[derive(Clone, Copy, PartialEq, Eq, Drop)]
 pub enum Pull {
     /// So many bytes, at least one, all with this moment: microseconds since 1970-01-01T00:00:00Z,
     /// 0 to 250,000,000,000,000,000.

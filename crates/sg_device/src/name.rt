@@ -7,7 +7,7 @@ use std::marker::Model;
 
 /// A text of bytes, as a path, a word of the command line or a name in a configuration is. It need
 /// not be UTF-8.
-#[derive(Debug, Drop)]
+#[derive(Drop)]
 pub struct Name {
     text: Vec<u8>,
 }

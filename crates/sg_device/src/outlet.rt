@@ -5,7 +5,7 @@ ghost use Rattle.sg_device.specs.Outlet.{OutletState, Sends, Reopens};
 use crate::{Frames, OutletFault, SendRefusal};
 
 /// What a reopening came to.
-#[derive(Clone, Copy, Debug, PartialEq, Eq, Drop)]
+#[derive(Clone, Copy, PartialEq, Eq, Drop)]
 pub enum Reopened {
     /// The file or the connection is open anew.
     Ready,

@@ -14,7 +14,7 @@ use sg_parse_base::Spot;
 use sg_parse_expr::Call;
 
 /// What stands for options that a driver leaves out.
-#[derive(Clone, Copy, Debug, Drop)]
+#[derive(Clone, Copy, Drop)]
 pub struct Defaults {
     /// `log-fifo-size`, in entries.
     pub fifo: u32,

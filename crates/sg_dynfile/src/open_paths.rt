@@ -14,6 +14,8 @@ pub struct OpenPaths {
     pub held: u32,
     // When each of them was used last, in uses of all.
     uses: Vec<u64>,
+    // A number made of the bytes of each, by which it is found.
+    marks: Vec<u64>,
     // The uses of all so far.
     count: u64,
     // The place of the path that was used last.
@@ -27,6 +29,7 @@ impl Drop for OpenPaths {
             names: _names,
             held: _held,
             uses: _uses,
+            marks: _marks,
             count: _count,
             last: _last,
         } = self;
@@ -37,6 +40,15 @@ fn is_same(path: &[u8], other: &[u8]) -> bool
     ensures { result ≡ bytes_eq path.now other.now }
 {
     path == other
+}
+
+// A number made of the bytes of a path.
+fn mark_of(path: &[u8]) -> u64 {
+    let mut mark: u64 = 0;
+    for byte in path {
+        mark = mark.wrapping_mul(31).wrapping_add(u64::from(*byte));
+    }
+    mark
 }
 
 // The first place of a path.
@@ -63,18 +75,32 @@ impl OpenPaths {
             names: Vec::new(alloc),
             held,
             uses: Vec::new(alloc),
+            marks: Vec::new(alloc),
             count: 0,
             last: 0,
         }
     }
 
-    /// Whether the path was used last.
-    fn is_last(&self, path: &[u8]) -> bool
+    // Whether the path stands at this place.
+    fn is_at(&self, place: usize, path: &[u8]) -> bool
         ensures { IsTrue result → Contains self.now.names.items path.now }
     {
-        match self.names.get(self.last) {
+        match self.names.get(place) {
             Some(name) => name.bytes() == path,
             None => false,
+        }
+    }
+
+    // The place of the path, where no other one before it has its mark.
+    fn marked(&self, path: &[u8]) -> Option<usize>
+        ensures { IfSome result (λ place. Contains self.now.names.items path.now) }
+    {
+        let mark = mark_of(path);
+        let place = self.marks.iter().position(|other| *other == mark)?;
+        if self.is_at(place, path) {
+            Some(place)
+        } else {
+            None
         }
     }
 
@@ -85,7 +111,8 @@ impl OpenPaths {
         ensures open { MatchBool result (Contains self.old.names.items path.now)
             (Contains self.old.names.items path.now → ⊥) }
     {
-        if self.is_last(path) {
+        if let Some(place) = self.marked(path) {
+            self.use_now(place);
             return true;
         }
         let Some(place) = place_of(&self.names, path) else {
@@ -149,8 +176,10 @@ impl OpenPaths {
     {
         let name = Name::new(self.alloc, path)?;
         self.uses.reserve(1)?;
+        self.marks.reserve(1)?;
         self.names.push(name)?;
         let _ = self.uses.push(self.count);
+        let _ = self.marks.push(mark_of(path));
         let place = self.names.len() - 1;
         self.use_now(place);
         Ok(())
@@ -166,6 +195,9 @@ impl OpenPaths {
         self.names.remove(place);
         if place < self.uses.len() {
             self.uses.remove(place);
+        }
+        if place < self.marks.len() {
+            self.marks.remove(place);
         }
         self.last = usize::MAX;
     }

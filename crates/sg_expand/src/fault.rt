@@ -11,14 +11,14 @@ use std::alloc::{AllocError, AllocFailed};
 
 /// The tokens of a whole configuration, and the names of its files by number: the main file is 0,
 /// and each reading of an included file takes the next number.
-#[derive(Debug, Drop)]
+#[derive(Drop)]
 pub struct Expanded {
     pub tokens: Seq<Token>,
     pub names: Seq<Name>,
 }
 
 /// Why a configuration has no expansion.
-#[derive(Debug, Drop)]
+#[derive(Drop)]
 pub enum ExpandRefusal {
     /// A fault, and the names of the files that were numbered so far.
     Bad {

@@ -161,7 +161,7 @@ impl InletCounts {
 
 /// What an outlet counts: the frames taken, the sends and reopenings that failed, those of them
 /// since a frame was taken last, and the sends and reopenings for which it was too early.
-#[derive(Clone, Copy, Debug, Drop)]
+#[derive(Clone, Copy, Drop)]
 pub struct OutletCounts {
     pub taken: u64,
     pub faults: u64,

@@ -8,7 +8,7 @@ use std::os::unix::fs::{FileExt, MetadataExt};
 pub(crate) const FIRST: usize = 1_024;
 
 /// A file's device, its inode, and a hash of its first bytes.
-#[derive(Clone, Copy, Debug, PartialEq, Eq, Drop)]
+#[derive(Clone, Copy, PartialEq, Eq, Drop)]
 pub(crate) struct Identity {
     device: u64,
     inode: u64,

@@ -3,7 +3,7 @@ ghost use Rattle.std.specs.Prelude.{◌≡◌, ◌+◌, ◌≤◌, ◌<◌, ◌^
 
 /// The bytes that the writes of one append have put into a file, and the place behind them. They are one
 /// piece where nobody else has appended between two of the writes.
-#[derive(Clone, Copy, Debug, Drop)]
+#[derive(Clone, Copy, Drop)]
 pub(crate) struct AppendedPiece {
     pub(crate) count: usize,
     /// The place behind the last write's bytes.

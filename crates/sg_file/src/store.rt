@@ -15,12 +15,19 @@ use std::os::unix::fs::FileExt;
 // A length is below this.
 const END: u64 = 1 << 63;
 
-/// A file that is read and written at places, and made stable by the system's own call. It is locked
-/// while it is open. A read that ends before the length that the store had is a fault, as where another
+// So many bytes are written in one call at most, where several calls ask for them.
+const GATHERED: usize = 262_144;
+
+/// A file that is read and written at places, and made stable by the system's own call. Writes that
+/// go on where the last one ended are made together, before the next read or sync. It is locked while
+/// it is open. A read that ends before the length that the store had is a fault, as where another
 /// program has truncated it.
 #[derive(Drop)]
 pub struct FileDisk {
     file: File,
+    // What is written next, from this place on.
+    ahead: Vec<u8>,
+    ahead_at: u64,
     // The name under which this opening made it, until a write.
     made: Option<String>,
     // The number of bytes at the opening, or at the end of a later write where that is more: the file
@@ -46,6 +53,8 @@ impl FileDisk {
         match open_measured(alloc, &rt, path, create) {
             Ok((OpenedFile { file, made }, length)) => Ok(FileDisk {
                 file,
+                ahead: Vec::new(alloc),
+                ahead_at: 0,
                 made,
                 length,
                 faults: 0,
@@ -66,7 +75,10 @@ impl FileDisk {
 
     /// Closes it. A position store that this opening made, and that nothing was written into, is taken away
     /// again, and its mark with it: without them the position is 0 as well.
-    pub fn close(self, rt: &HostRuntime) {
+    pub fn close(mut self, rt: &HostRuntime) {
+        if self.faults == 0 {
+            let _written = self.flush();
+        }
         let FileDisk { file, made, .. } = self;
         if let Some(path) = made {
             let _left = take_away(rt, &file, path.as_str());
@@ -89,6 +101,66 @@ impl FileDisk {
         self.health.fails(what, reason);
         self.faults = self.faults.saturating_add(1);
         DiskFault
+    }
+
+    // Writes what was gathered.
+    fn flush(&mut self) -> Result<(), DiskFault>
+        ensures length { self.new.length ≡ self.old.length }
+        ensures cause { HasCause (disk_of self.old).faults (disk_of self.new).faults result }
+    {
+        if self.ahead.is_empty() {
+            return Ok(());
+        }
+        match self.file.write_all_at(self.ahead.as_slice(), self.ahead_at) {
+            Ok(()) => {
+                self.ahead.clear();
+                self.health.works();
+                Ok(())
+            }
+            Err(error) => Err(self.fails("write", &error)),
+        }
+    }
+
+    // Gathers a write that goes on where the last one ended, or begins before that and reaches behind
+    // it. Whether it did.
+    fn gathers(&mut self, at: u64, from: &[u8]) -> bool
+        ensures length { self.new.length ≡ self.old.length }
+        ensures faults { self.new.faults ≡ self.old.faults }
+    {
+        let Some(kept) = at.checked_sub(self.ahead_at) else {
+            return false;
+        };
+        if kept > self.ahead.len() as u64 {
+            return false;
+        }
+        let end = (kept as usize).saturating_add(from.len());
+        if end < self.ahead.len() || end > GATHERED || self.ahead.reserve(from.len()).is_err() {
+            return false;
+        }
+        self.ahead.truncate(kept as usize);
+        self.ahead.extend_from_slice(from).is_ok()
+    }
+
+    // Writes these bytes, now or with what is written next.
+    fn put(&mut self, at: u64, from: &[u8]) -> Result<(), DiskFault>
+        ensures length { self.new.length ≡ self.old.length }
+        ensures cause { HasCause (disk_of self.old).faults (disk_of self.new).faults result }
+    {
+        if self.gathers(at, from) {
+            return Ok(());
+        }
+        self.flush()?;
+        self.ahead_at = at;
+        if self.gathers(at, from) {
+            return Ok(());
+        }
+        match self.file.write_all_at(from, at) {
+            Ok(()) => {
+                self.health.works();
+                Ok(())
+            }
+            Err(error) => Err(self.fails("write", &error)),
+        }
     }
 
     // Counts a call that found the file shorter than it was.
@@ -116,6 +188,7 @@ impl Disk for FileDisk {
         ensures whole { IfOk result (λ count. self.old.length ≤ count) }
         ensures known { self.new.length ≡ self.old.length }
     {
+        self.flush()?;
         match length_of(&self.file) {
             Ok(len) if len >= self.length => Ok(len),
             Ok(_) => Err(self.truncated()),
@@ -135,6 +208,7 @@ impl Disk for FileDisk {
         if at >= END && at >= self.length {
             return Ok(0);
         }
+        self.flush()?;
         let least = self.length.saturating_sub(at).min(into.len() as u64);
         match read_from(&self.file, at, into) {
             Ok(count) if (count as u64) < least => Err(self.truncated()),
@@ -156,14 +230,9 @@ impl Disk for FileDisk {
             return Err(self.fails("write", &io::Error::from(ErrorKind::FileTooLarge)));
         }
         self.made = None;
-        match self.file.write_all_at(from, at) {
-            Ok(()) => {
-                self.health.works();
-                self.length = self.length.max(at.saturating_add(from.len() as u64));
-                Ok(())
-            }
-            Err(error) => Err(self.fails("write", &error)),
-        }
+        self.put(at, from)?;
+        self.length = self.length.max(at.saturating_add(from.len() as u64));
+        Ok(())
     }
 
     fn sync(&mut self) -> Result<(), DiskFault>
@@ -171,6 +240,7 @@ impl Disk for FileDisk {
         ensures cause { HasCause (disk_of self.old).faults (disk_of self.new).faults result }
         ensures known { self.new.length ≡ self.old.length }
     {
+        self.flush()?;
         match self.file.sync_all() {
             Ok(()) => Ok(()),
             Err(error) => Err(self.fails("sync", &error)),

@@ -16,7 +16,7 @@ use std::os::unix::fs::{OpenOptionsExt, PermissionsExt};
 const TORN: &str = "another one appended within a record";
 
 /// How a file is appended to.
-#[derive(Clone, Copy, Debug, Drop)]
+#[derive(Clone, Copy, Drop)]
 pub struct Appending {
     /// What was appended counts once it is on the disk.
     pub fsync: bool,
@@ -54,13 +54,32 @@ impl Target {
     ) -> Result<Target, OpenRefusal>
         ensures { IfOk result (IsFor path.now how) }
     {
-        let mut health = Health::new(alloc, rt, "destination", path)?;
+        Target::open_again(alloc, rt, path, how, rest, &mut None)
+    }
+
+    /// The same of a file that couldn't be opened before, which is told once: its health is left where
+    /// it fails, and given again with the next try.
+    pub fn open_again(
+        alloc: Global,
+        rt: HostRuntime,
+        path: &[u8],
+        how: Appending,
+        rest: IdleWait,
+        left: &mut Option<Health>,
+    ) -> Result<Target, OpenRefusal>
+        ensures { IfOk result (IsFor path.now how) }
+    {
+        let mut health = match left.take() {
+            Some(health) => health,
+            None => Health::new(alloc, rt, "destination", path)?,
+        };
         let mut retry = Retry::new(rt, how.reopen);
         retry.begin();
         let (path, file) = match open_by_name(&rt, path, how, &rest) {
             Ok(opened) => opened,
             Err(error) => {
                 health.fails("open", &error);
+                *left = Some(health);
                 return Err(OpenRefusal::Failed);
             }
         };
@@ -118,7 +137,10 @@ impl Target {
                         .fails("write", &io::Error::from(ErrorKind::WriteZero));
                     return piece;
                 }
-                Ok(count) => piece.add(count, self.file.stream_position().ok()),
+                Ok(count) => {
+                    let place = self.place_behind(count < bytes.len());
+                    piece.add(count, place);
+                }
                 Err(error) if error.kind() == ErrorKind::Interrupted => {}
                 Err(error) => {
                     self.health.fails("write", &error);
@@ -127,6 +149,17 @@ impl Target {
             }
         }
         piece
+    }
+
+    // The place behind the last write, which is asked for where what was written may be cut off again: a
+    // part of what was to be, or what has to be synced.
+    fn place_behind(&mut self, part: bool) -> Option<u64>
+        ensures { KeepsTarget self.old self.new }
+    {
+        if part | self.how.fsync {
+            return self.file.stream_position().ok();
+        }
+        None
     }
 
     // One write, while no other driver cuts the file.

@@ -1,7 +1,14 @@
 -- How a framer keeps its bytes and their moments.
 use Rattle.std.specs.Prelude.{◌≡◌, ◌≢◌, ℕ, ℤ, pos, ◌+◌, ◌-◌, ◌<◌, ◌≤◌, ◌^◌, max, replicate, List, [], ◌∷◌, ◌++◌, length, drop, slice_index, slice_index_or, slice_range}
+use Rattle.sg_frame.specs.declared.block.KeptPart.{KeptPart}
+use Rattle.sg_frame.specs.declared.block.KeptPart.TheVariants.{Fed, Shared}
 use Rattle.sg_frame.specs.declared.moments.TimedRun.{TimedRun}
 use Rattle.sg_frame.specs.declared.scan.ItemSpan.{ItemSpan}
+
+-- bytes that stand in a list that grows, or in a block
+abbrev pub part_items : KeptPart → List ℕ
+part_items (Fed list) = list.items
+part_items (Shared block) = block
 
 -- the moments of the bytes from this place on, run after run
 abbrev pub moments : (place : ℕ) → List TimedRun → List ℤ

@@ -6,16 +6,17 @@ ghost use Rattle.sg_frame.specs.Framing.{fresh, with_bytes, fed, HasFramed, Next
 ghost use Rattle.sg_frame.specs.Kept.{moments, runs_end, Cuts};
 
 use crate::FrameKind;
+use crate::block::KeptBytes;
 use crate::moments::{TimedRun, moment_at};
 use crate::scan::{ItemSpan, Seen, find_item};
-use bytes::{Bytes, BytesMut};
+use bytes::Bytes;
 use sg_device::NoMemory;
 use std::alloc::Global;
 use std::collections::VecDeque;
 use std::marker::Model;
 
 /// What `next` finds.
-#[derive(Debug, Drop)]
+#[derive(Drop)]
 pub enum Framed {
     /// An item: its text, the place behind it, counted from where the framer was new, and the moment
     /// of the byte that made it whole, in microseconds since 1970-01-01T00:00:00Z. The text shares
@@ -35,7 +36,7 @@ pub struct Framer {
     place: u64,
     /// So many bytes from it on have no line feed.
     scanned: usize,
-    kept: BytesMut,
+    kept: KeptBytes,
     runs: VecDeque<TimedRun>,
 }
 
@@ -63,27 +64,27 @@ impl Model for Framer {
       kind = f.kind;
       limit = f.limit;
       place = f.place;
-      held = zip f.kept.items (moments f.place f.runs.items);
+      held = zip f.kept (moments f.place f.runs.items);
     } };
 
-    ghost invariant = { λ f. AreRunsKept f.limit f.place f.scanned f.kept.items f.runs.items };
+    ghost invariant = { λ f. AreRunsKept f.limit f.place f.scanned f.kept f.runs.items };
 }
 
 /// Takes an item off the front of the bytes kept: its text and moment. `NoMemory` leaves both.
 fn cut(
-    kept: &mut BytesMut,
+    kept: &mut KeptBytes,
     runs: &mut VecDeque<TimedRun>,
     place: u64,
     span: ItemSpan,
 ) -> Result<(Bytes, i64), NoMemory>
-    requires range { place + length kept.old.items < 2 ^ 63 }
-    requires covers { runs_end place runs.old.items ≡ place + length kept.old.items }
+    requires range { place + length kept.old < 2 ^ 63 }
+    requires covers { runs_end place runs.old.items ≡ place + length kept.old }
     requires from { span.from ≤ span.to }
     requires to { span.to ≤ span.taken }
-    requires last { span.last < length kept.old.items }
-    requires taken { (span.last ≤ span.taken) × (span.taken ≤ length kept.old.items) }
+    requires last { span.last < length kept.old }
+    requires taken { (span.last ≤ span.taken) × (span.taken ≤ length kept.old) }
     ensures cut { IfOk result
-        (λ r. Cuts place span kept.old.items kept.new.items runs.old.items runs.new.items r.0 r.1) }
+        (λ r. Cuts place span kept.old kept.new runs.old.items runs.new.items r.0 r.1) }
     ensures refused { OnErr result ((kept.new ≡ kept.old) × (runs.new ≡ runs.old)) }
 {
     let mut bytes = kept.freeze_to(span.taken)?;
@@ -104,7 +105,7 @@ impl Framer {
             limit,
             place: 0,
             scanned: 0,
-            kept: BytesMut::new(alloc),
+            kept: KeptBytes::new(alloc),
             runs: VecDeque::with_capacity(alloc, 4)?,
         })
     }

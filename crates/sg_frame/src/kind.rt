@@ -1,7 +1,7 @@
 // How records stand in a stream of bytes.
 
 /// The framing of a stream (RFC 6587).
-#[derive(Clone, Copy, Debug, PartialEq, Eq, Drop)]
+#[derive(Clone, Copy, PartialEq, Eq, Drop)]
 pub enum FrameKind {
     /// Each record ends with a line feed: non-transparent framing, RFC 6587 section 3.4.2.
     Lines,

@@ -5,7 +5,7 @@ ghost use Rattle.sg_frame.specs.Kept.{moments, runs_end};
 use std::collections::VecDeque;
 
 /// Bytes that came at one moment: those up to a place.
-#[derive(Clone, Copy, Debug, Drop)]
+#[derive(Clone, Copy, Drop)]
 pub struct TimedRun {
     /// The place behind the last of them.
     pub end: u64,

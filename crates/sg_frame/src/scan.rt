@@ -9,7 +9,7 @@ use crate::FrameKind;
 use memchr::memchr;
 
 /// Where an item stands in the bytes kept.
-#[derive(Clone, Copy, Debug, Drop)]
+#[derive(Clone, Copy, Drop)]
 pub struct ItemSpan {
     /// Its text begins here.
     pub from: usize,
@@ -22,7 +22,7 @@ pub struct ItemSpan {
 }
 
 /// What stands at the front of the bytes kept.
-#[derive(Clone, Copy, Debug, Drop)]
+#[derive(Clone, Copy, Drop)]
 pub enum Seen {
     Whole(ItemSpan),
     /// No item is whole, and so many bytes have no line feed.
@@ -32,7 +32,7 @@ pub enum Seen {
 }
 
 /// What stands at the front of counted bytes, before an item's text.
-#[derive(Clone, Copy, Debug, Drop)]
+#[derive(Clone, Copy, Drop)]
 enum Count {
     /// The text's length, and where it begins.
     Read(usize, usize),

@@ -5,7 +5,7 @@ ghost use Rattle.std.specs.Str.Lines.{strip_carriage_return};
 ghost use Rattle.sg_hint.specs.Lines.{behind_bytes, first_place, numbered_line};
 
 /// A place in a text: its line and the byte of that line, both counted from 1.
-#[derive(Clone, Copy, Debug, PartialEq, Eq, Drop)]
+#[derive(Clone, Copy, PartialEq, Eq, Drop)]
 pub struct TextPlace {
     pub line: u32,
     pub column: u32,

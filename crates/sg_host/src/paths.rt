@@ -8,7 +8,7 @@ ghost use Rattle.sg_host.specs.Paths.{opener_of, paths_of, HostPathsOpen, PathsR
 
 use crate::cells::{HostPathsCell, add_paths, paths_cell};
 use sg_device::{Frames, Name, OpenRefusal, Opener, OutletFault, Reopened, SendRefusal};
-use sg_file::{Appending, IdleWait, OutletCounts, Retry, Target};
+use sg_file::{Appending, Health, IdleWait, OutletCounts, Retry, Target};
 use sg_outside::OutletSpec;
 use std::alloc::Global;
 use std::time::Instant;
@@ -48,6 +48,17 @@ impl PathCounts {
 struct OpenFile {
     target: Target,
     used: Option<Instant>,
+    // A number made of the bytes of its path, by which it is found.
+    mark: u64,
+}
+
+// A number made of the bytes of a path.
+fn mark_of(path: &[u8]) -> u64 {
+    let mut mark: u64 = 0;
+    for byte in path {
+        mark = mark.wrapping_mul(31).wrapping_add(u64::from(*byte));
+    }
+    mark
 }
 
 impl OpenFile {
@@ -63,11 +74,12 @@ impl OpenFile {
     }
 }
 
-// The path that couldn't be opened last.
+// The path that couldn't be opened last, and its health, so that this is told once.
 #[derive(Drop)]
 struct Missed {
     path: Name,
     retry: Retry,
+    health: Option<Health>,
 }
 
 /// The files that an opener has open. Each file is appended to by one write for the texts of a send. A
@@ -136,12 +148,28 @@ impl OpenedFiles {
     }
 
     // The file of this path couldn't be opened now.
-    fn miss(&mut self, path: Name)
+    fn miss(&mut self, path: Name, health: Option<Health>)
         ensures { self.new.counts ≡ self.old.counts }
     {
         let mut retry = Retry::new(self.rt, self.how.reopen);
         retry.begin();
-        self.missed = Some(Missed { path, retry });
+        self.missed = Some(Missed {
+            path,
+            retry,
+            health,
+        });
+    }
+
+    // The health of a path that couldn't be opened when it was tried last.
+    fn take_health(&mut self, path: &[u8]) -> Option<Health>
+        ensures { self.new.counts ≡ self.old.counts }
+    {
+        let missed = self.missed.as_mut()?;
+        if missed.path.bytes() == path {
+            missed.health.take()
+        } else {
+            None
+        }
     }
 
     // Opens the file of a path, and puts it behind the others.
@@ -155,11 +183,12 @@ impl OpenedFiles {
         }
         let name = Name::new(self.alloc, path)?;
         let rest = self.rest.share()?;
-        match Target::open(self.alloc, self.rt, path, self.how, rest) {
+        let mut health = self.take_health(path);
+        match Target::open_again(self.alloc, self.rt, path, self.how, rest, &mut health) {
             Ok(target) => self.push(name, target),
             Err(OpenRefusal::NoMemory) => Err(SendRefusal::NoMemory),
             Err(OpenRefusal::Failed) => {
-                self.miss(name);
+                self.miss(name, health);
                 Err(SendRefusal::Fault)
             }
         }
@@ -172,6 +201,7 @@ impl OpenedFiles {
         let file = OpenFile {
             target,
             used: Instant::now(&self.rt).ok(),
+            mark: mark_of(name.bytes()),
         };
         if self.files.push(file).is_err() {
             return Err(SendRefusal::NoMemory);
@@ -183,6 +213,16 @@ impl OpenedFiles {
         Ok(())
     }
 
+    // The number of the open file of a path.
+    fn place_of(&self, path: &[u8]) -> Option<usize> {
+        let mark = mark_of(path);
+        let place = self.files.iter().position(|file| file.mark == mark)?;
+        match self.counts.opened.get(place) {
+            Some(name) if name.bytes() == path => Some(place),
+            _ => find(&self.counts.opened, path),
+        }
+    }
+
     // Appends the texts to the file of a path, where so many can be counted, and tells how many of them
     // count.
     fn put(&mut self, path: &[u8], texts: &Frames) -> usize
@@ -191,7 +231,7 @@ impl OpenedFiles {
         if !self.counts.calls.has_room(texts.len()) {
             return 0;
         }
-        let Some(i) = find(&self.counts.opened, path) else {
+        let Some(i) = self.place_of(path) else {
             return 0;
         };
         let Some(file) = self.files.get_mut(i) else {
@@ -209,7 +249,7 @@ impl OpenedFiles {
         if self.reap == 0 {
             return false;
         }
-        let Some(i) = find(&self.counts.opened, path) else {
+        let Some(i) = self.place_of(path) else {
             return false;
         };
         match self.files.get(i) {
@@ -221,7 +261,7 @@ impl OpenedFiles {
     fn open_anew(&mut self, path: &[u8]) -> Result<Reopened, OutletFault>
         ensures { self.new.counts ≡ self.old.counts }
     {
-        let Some(i) = find(&self.counts.opened, path) else {
+        let Some(i) = self.place_of(path) else {
             return Err(OutletFault);
         };
         match self.files.get_mut(i) {

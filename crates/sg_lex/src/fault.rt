@@ -57,7 +57,7 @@ pub enum ConfigKind {
 
 /// What is wrong, and where: the file's number in the order of reading, the main file being 0, and
 /// the line, counted from 1.
-#[derive(Clone, Copy, Debug, PartialEq, Eq, Drop)]
+#[derive(Clone, Copy, PartialEq, Eq, Drop)]
 pub struct ConfigFault {
     pub kind: ConfigKind,
     pub file: u32,

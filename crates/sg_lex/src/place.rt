@@ -13,7 +13,7 @@ pub struct Line {
 
 /// A comparison of two texts by their bytes: as the words `eq`, `ne`, `lt`, `gt`, `le` and `ge` of
 /// filters say it.
-#[derive(Clone, Copy, Debug, PartialEq, Eq, Drop)]
+#[derive(Clone, Copy, PartialEq, Eq, Drop)]
 pub enum Cmp {
     Eq,
     Ne,

@@ -24,7 +24,7 @@ pub enum TokenKind {
 }
 
 /// A token, and the place at which it was written.
-#[derive(Debug, Drop)]
+#[derive(Drop)]
 pub struct Token {
     pub kind: TokenKind,
     /// The number of its file.

@@ -6,7 +6,7 @@ use std::alloc::{AllocError, Global};
 use std::marker::Model;
 
 /// A list of values, which contracts see as that list, whatever memory it holds.
-#[derive(Debug, Drop)]
+#[derive(Drop)]
 pub struct Seq<T> {
     held: Vec<T>,
 }

@@ -11,7 +11,7 @@ use sg_outside::Files;
 use std::alloc::{AllocError, Global};
 
 /// A place in a file.
-#[derive(Clone, Copy, Debug, PartialEq, Eq, Drop)]
+#[derive(Clone, Copy, PartialEq, Eq, Drop)]
 pub struct Location {
     /// The number of the file.
     pub file: u32,

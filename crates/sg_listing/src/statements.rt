@@ -7,7 +7,7 @@ use sg_parse_base::{is_name, is_symbol, is_word, same_keyword};
 use std::alloc::Global;
 
 /// The tokens of a statement: the place of the first one, and the place behind the last one.
-#[derive(Clone, Copy, Debug, PartialEq, Eq, Drop)]
+#[derive(Clone, Copy, PartialEq, Eq, Drop)]
 pub struct Span {
     pub first: usize,
     pub end: usize,

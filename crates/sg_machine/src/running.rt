@@ -6,7 +6,7 @@ use sg_msg::Message;
 use sg_window::BegunRecord;
 
 // An entry of a destination, but for its end and whether it is spooled.
-#[derive(Debug, Drop)]
+#[derive(Drop)]
 pub struct Slip {
     pub inlet: u32,
     /// The record's number at its inlet, counted from 0.
@@ -17,7 +17,7 @@ pub struct Slip {
 
 // An inlet: its stored position, its records, each with the acknowledgements that it still needs, how
 // many of the first are acknowledged, and the mark.
-#[derive(Debug, Drop)]
+#[derive(Drop)]
 pub struct SourceRun {
     pub setup: SourceSetup,
     /// A byte offset in what the inlet gives.
@@ -31,7 +31,7 @@ pub struct SourceRun {
 // A destination: all entries kept, of which those below `taken` are settled, and the others below
 // `moved` are spooled; of those left how many are without flow-control, and how many bytes of the
 // disk-buffer the spooled ones take.
-#[derive(Debug, Drop)]
+#[derive(Drop)]
 pub struct DestRun {
     pub setup: DestSetup,
     pub kept: Seq<Slip>,
@@ -47,7 +47,7 @@ pub struct DestRun {
 }
 
 // The inlets, the destinations, and the stores that have failed, in the order of failing.
-#[derive(Debug, Drop)]
+#[derive(Drop)]
 pub struct Run {
     pub sources: Seq<SourceRun>,
     pub dests: Seq<DestRun>,

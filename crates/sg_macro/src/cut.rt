@@ -7,7 +7,7 @@ use crate::{TemplateFault, TemplatePart};
 use std::alloc::Global;
 
 // A part, and how many bytes of the text spell it.
-#[derive(Debug, Drop)]
+#[derive(Drop)]
 pub(crate) struct CutPart {
     pub(crate) part: TemplatePart,
     pub(crate) len: usize,

@@ -6,7 +6,6 @@ use sg_device::Name;
 use std::alloc::{AllocError, Global};
 
 /// A part of a template.
-#[derive(Debug)]
 pub enum TemplatePart {
     /// A text that stands for itself.
     Literal(Name),

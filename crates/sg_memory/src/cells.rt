@@ -9,21 +9,21 @@ use crate::{MemoryInlet, MemoryOutlet, MemoryPaths};
 use std::alloc::{AllocError, Global};
 
 /// A closed inlet, and the one closed before it.
-#[derive(Debug, Drop)]
+#[derive(Drop)]
 pub struct MemoryInletCell {
     pub closed: Option<MemoryInlet>,
     pub before: Option<Box<MemoryInletCell>>,
 }
 
 /// A closed outlet, and the one closed before it.
-#[derive(Debug, Drop)]
+#[derive(Drop)]
 pub struct MemoryOutletCell {
     pub closed: Option<MemoryOutlet>,
     pub before: Option<Box<MemoryOutletCell>>,
 }
 
 /// A closed opener, and the one closed before it.
-#[derive(Debug, Drop)]
+#[derive(Drop)]
 pub struct MemoryPathsCell {
     pub closed: Option<MemoryPaths>,
     pub before: Option<Box<MemoryPathsCell>>,

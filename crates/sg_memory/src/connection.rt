@@ -8,7 +8,7 @@ use std::alloc::Global;
 use std::collections::VecDeque;
 
 /// A connection to one of the slots on an address, its peer, and the bytes that come over it.
-#[derive(Debug, Drop)]
+#[derive(Drop)]
 pub struct MemoryConnection {
     pub ip: Name,
     pub port: u16,

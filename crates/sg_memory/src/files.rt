@@ -6,7 +6,7 @@ use sg_device::{Name, NoMemory};
 use std::alloc::Global;
 
 /// A file, which no call changes.
-#[derive(Debug, Drop)]
+#[derive(Drop)]
 pub struct MemoryFile {
     pub name: Name,
     pub bytes: Vec<u8>,

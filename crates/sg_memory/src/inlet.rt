@@ -11,7 +11,6 @@ use std::collections::VecDeque;
 /// An inlet that gives at most a piece at a pull, all bytes with one moment. It tells its content. A
 /// file is one part from the start, and ends where it is hung up; a slot has a part for each
 /// connection.
-#[derive(Debug)]
 pub struct MemoryInlet {
     parts: MemoryParts,
     from: u64,
@@ -57,7 +56,7 @@ impl Drop for MemoryInlet {
 }
 
 /// How an inlet in memory gives its bytes.
-#[derive(Clone, Copy, Debug, PartialEq, Eq)]
+#[derive(Clone, Copy, PartialEq, Eq)]
 pub struct Pace {
     /// The most bytes of a pull, at least 1.
     pub piece: usize,

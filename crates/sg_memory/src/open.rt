@@ -14,7 +14,7 @@ use sg_device::{
 };
 
 /// An open inlet of a machine in memory.
-#[derive(Debug, Drop)]
+#[derive(Drop)]
 pub struct MemoryFeed {
     pub inlet: MemoryInlet,
     pub(crate) cell: Box<MemoryInletCell>,
@@ -45,7 +45,7 @@ impl Inlet for MemoryFeed {
 }
 
 /// An open outlet of a machine in memory.
-#[derive(Debug, Drop)]
+#[derive(Drop)]
 pub struct MemoryDrain {
     pub outlet: MemoryOutlet,
     pub(crate) cell: Box<MemoryOutletCell>,
@@ -76,7 +76,7 @@ impl Outlet for MemoryDrain {
 }
 
 /// An open opener of a machine in memory.
-#[derive(Debug, Drop)]
+#[derive(Drop)]
 pub struct MemoryOpener {
     pub paths: MemoryPaths,
     pub(crate) cell: Box<MemoryPathsCell>,

@@ -6,7 +6,7 @@ use sg_outside::InletSpec;
 
 /// What an inlet was opened for; of a file the place where reading began, and the bytes that were left
 /// then.
-#[derive(Debug, Drop)]
+#[derive(Drop)]
 pub struct MemoryOpenedInlet {
     pub(crate) spec: InletSpec,
     pub(crate) from: u64,

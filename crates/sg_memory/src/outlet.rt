@@ -7,7 +7,6 @@ use sg_device::{Frames, Outlet, OutletFault, Reopened, SendRefusal};
 use std::alloc::Global;
 
 /// An outlet that keeps the frames it takes, and tells them.
-#[derive(Debug)]
 pub struct MemoryOutlet {
     frames: Frames,
     /// The calls that fail, and those that are too early.

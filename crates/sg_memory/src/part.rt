@@ -7,7 +7,7 @@ use sg_device::{Name, NoMemory};
 use std::alloc::Global;
 
 /// What a peer sends in one part.
-#[derive(Debug, Drop)]
+#[derive(Drop)]
 pub struct MemoryPart {
     pub peer: Name,
     pub bytes: Vec<u8>,

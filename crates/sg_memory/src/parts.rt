@@ -9,7 +9,7 @@ use std::alloc::Global;
 use std::collections::VecDeque;
 
 /// The parts of an inlet: those that are over, the present one and those to come.
-#[derive(Debug, Drop)]
+#[derive(Drop)]
 pub struct MemoryParts {
     past: Vec<MemoryPart>,
     present: Option<MemoryPart>,

@@ -10,14 +10,13 @@ use sg_device::{Frames, Name, NoMemory, Opener, OutletFault, Reopened, SendRefus
 use std::alloc::{AllocError, Global};
 
 /// A text that was taken, and the path of its file.
-#[derive(Debug, Drop)]
+#[derive(Drop)]
 pub struct TakenText {
     pub path: Name,
     pub text: Vec<u8>,
 }
 
 /// An opener that keeps the texts it takes, and tells them.
-#[derive(Debug)]
 pub struct MemoryPaths {
     alloc: Global,
     opened: Vec<Name>,

@@ -9,7 +9,7 @@ use std::alloc::Global;
 use std::collections::VecDeque;
 
 /// What the calls of an outlet, or of an opener, come to.
-#[derive(Debug, Drop)]
+#[derive(Drop)]
 pub struct OutletScript {
     /// The sends and reopenings that fail, counted together, and the openings of an opener with them.
     pub fails: FaultPlan,
@@ -62,7 +62,7 @@ impl OutletScript {
 }
 
 /// What the calls of an opener come to.
-#[derive(Debug, Drop)]
+#[derive(Drop)]
 pub struct PathsPlan {
     pub calls: OutletScript,
     /// The questions for a file that took nothing for long which are answered by true.
@@ -82,7 +82,6 @@ impl PathsPlan {
 }
 
 /// The calls of a machine that fail, and those of the devices that it opens.
-#[derive(Debug)]
 pub struct WorldPlans {
     pub reads: FaultPlan,
     pub inlet_opens: FaultPlan,

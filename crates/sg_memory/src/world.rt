@@ -30,7 +30,6 @@ use std::alloc::Global;
 
 /// A machine in memory, which tells its files, its devices and the bytes said. No call changes a
 /// file: what an outlet takes stands in the outlet.
-#[derive(Debug)]
 pub struct MemoryWorld {
     files: Vec<MemoryFile>,
     /// The connections that peers make to the slots, in order.

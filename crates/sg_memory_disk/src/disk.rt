@@ -11,7 +11,6 @@ use std::alloc::{AllocError, Global};
 
 /// A disk in memory, which tells its bytes and its images. A write or a sync that finds no memory
 /// fails as on a full disk.
-#[derive(Debug)]
 pub struct MemoryDisk {
     pub(crate) alloc: Global,
     pub(crate) first: Vec<u8>,

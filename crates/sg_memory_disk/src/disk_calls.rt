@@ -7,7 +7,7 @@ ghost use Rattle.sg_memory_disk.specs.DiskPlan.{after_next, refuses, with_fault,
 use crate::DiskPlan;
 
 /// The calls of a disk that fail, and those that failed.
-#[derive(Debug, Drop)]
+#[derive(Drop)]
 pub struct DiskCalls {
     pub plan: DiskPlan,
     pub faults: u64,

@@ -7,7 +7,7 @@ use sg_device::NoMemory;
 use std::alloc::Global;
 
 /// What a call of a disk left.
-#[derive(Debug, Drop)]
+#[derive(Drop)]
 pub enum DiskChange {
     /// A write that was done.
     Wrote(DiskWrite),

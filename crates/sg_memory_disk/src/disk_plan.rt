@@ -7,7 +7,7 @@ use std::alloc::Global;
 use std::collections::VecDeque;
 
 /// The calls of a disk that fail, and what they leave.
-#[derive(Debug, Drop)]
+#[derive(Drop)]
 pub struct DiskPlan {
     pub fails: FaultPlan,
     /// The number of calls that pass before each later one fails, if it is set.

@@ -2,7 +2,7 @@
 ghost use Rattle.std.specs.Prelude.{◌≡◌};
 
 /// What stands in the range of a write that wasn't stable, and in the gap before it.
-#[derive(Debug, Drop)]
+#[derive(Drop)]
 pub enum Pick {
     /// What was there before.
     Old,

@@ -4,7 +4,7 @@ ghost use Rattle.std.specs.Prelude.{◌≡◌};
 use std::alloc::Global;
 
 /// The numbers of the calls that fail, counted from 0.
-#[derive(Debug, Drop)]
+#[derive(Drop)]
 pub struct FaultPlan {
     fails: Vec<u64>,
     calls: u64,

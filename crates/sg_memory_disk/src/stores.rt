@@ -15,28 +15,28 @@ use std::alloc::{AllocError, Global};
 use std::collections::VecDeque;
 
 /// A store that was opened, and its disk as it was then.
-#[derive(Debug, Drop)]
+#[derive(Drop)]
 pub struct MemoryOpenedStore {
     pub spec: StoreSpec,
     pub disk: MemoryDisk,
 }
 
 /// A closed store.
-#[derive(Debug, Drop)]
+#[derive(Drop)]
 pub struct ClosedStore {
     pub name: Name,
     pub disk: MemoryDisk,
 }
 
 /// A closed store, and the one closed before it.
-#[derive(Debug, Drop)]
+#[derive(Drop)]
 pub struct MemoryStoreCell {
     pub closed: Option<ClosedStore>,
     pub before: Option<Box<MemoryStoreCell>>,
 }
 
 /// An open store of a machine in memory, with the memory for its closing.
-#[derive(Debug, Drop)]
+#[derive(Drop)]
 pub struct MemoryStore {
     pub disk: MemoryDisk,
     name: Name,
@@ -68,7 +68,6 @@ impl Disk for MemoryStore {
 }
 
 /// The stores that are there, those opened and those closed, and the openings and disks that fail.
-#[derive(Debug)]
 pub struct MemoryStores {
     pub opens: FaultPlan,
     /// The plans of the disks that will be opened, in order. No call fails of those behind them.

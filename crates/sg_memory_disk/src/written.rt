@@ -2,7 +2,7 @@
 ghost use Rattle.std.specs.Prelude.{◌+◌, ◌<◌, ◌≤◌, ◌^◌, length};
 
 /// Bytes that were written at a place.
-#[derive(Debug, Drop)]
+#[derive(Drop)]
 pub struct DiskWrite {
     /// A byte offset.
     pub at: u64,
@@ -11,7 +11,7 @@ pub struct DiskWrite {
 }
 
 /// A write of so many bytes at a place that failed, and the bytes that stand there since.
-#[derive(Debug, Drop)]
+#[derive(Drop)]
 pub struct TornWrite {
     /// A byte offset.
     pub at: u64,

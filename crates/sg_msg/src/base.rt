@@ -1,26 +1,24 @@
 // The pairs of a message, in one sorted list that its handles share.
 ghost use Rattle.std.specs.Prelude.{◌≡◌, ◌<◌, [], length, remove, IfOk, IfErr, OnOk, OnErr, option_copied, slice_get, option_map};
-ghost use Rattle.sg_msg.specs.Message.{value_of, with_pair, without_pair, IsAscending};
+ghost use Rattle.sg_msg.specs.Message.{value_of, with_all, with_pair, without_pair, IsAscending};
 ghost use Rattle.sg_msg.specs.Places.{IsPairAt, IsGapFor};
 
+use crate::is_same;
 use crate::order::order;
 use crate::pair::NameValue;
 use bytes::Bytes;
-use smallvec::SmallVec;
 use std::alloc::{AllocError, Global};
+use std::collections::VecDeque;
 use std::marker::Model;
 use std::sync::Arc;
-
-// The number of pairs that take no memory of their own: HOST, PROGRAM, PID, MSGID and MESSAGE.
-pub(crate) const FEW: usize = 5;
 
 // Among so many pairs a name is looked for one pair after another.
 const SCANNED: usize = 8;
 
 /// The pairs in order.
-#[derive(Debug, Drop)]
+#[derive(Drop)]
 struct Base {
-    pairs: SmallVec<NameValue, FEW>,
+    pairs: Vec<NameValue>,
 }
 
 impl Model for Base {
@@ -47,14 +45,33 @@ fn value_among<'a>(pairs: &'a [NameValue], name: &[u8]) -> Option<&'a [u8]>
     ensures { option_copied result ≡ value_of name.now pairs.now }
 {
     for pair in pairs {
-        if pair.name() == name {
+        if is_same(pair.name(), name) {
             return Some(pair.value());
         }
     }
     None
 }
 
+// The pairs, in a list with room for so many more.
+fn copied(alloc: Global, pairs: &[NameValue], more: usize) -> Result<Vec<NameValue>, AllocError>
+    ensures { IfOk result (λ copies. copies.items ≡ pairs.now) }
+{
+    let mut copies = Vec::with_capacity(alloc, pairs.len().saturating_add(more))?;
+    for pair in pairs {
+        copies.push(pair.clone()?)?;
+    }
+    Ok(copies)
+}
+
 impl Base {
+    // The same, in a list with room for so many more.
+    fn with_room(&self, alloc: Global, more: usize) -> Result<Base, AllocError>
+        ensures { IfOk result (λ base. base ≡ self.now) }
+    {
+        let pairs = copied(alloc, self.pairs.as_slice(), more)?;
+        Ok(Base { pairs })
+    }
+
     // Where the name is, or where it would go.
     fn search(&self, name: &[u8]) -> Result<usize, usize>
         requires { IsAscending self.now }
@@ -108,6 +125,32 @@ impl Base {
         Ok(())
     }
 
+    // Sets a pair.
+    fn add(&mut self, pair: NameValue) -> Result<(), AllocError>
+        requires { IsAscending self.old }
+        ensures { OnOk result (self.new ≡ with_pair pair.name pair.value self.old) }
+    {
+        match self.search(pair.name()) {
+            Ok(place) => self.pairs[place].put(pair.into_value()),
+            Err(place) => self.pairs.insert(place, pair)?,
+        }
+        Ok(())
+    }
+
+    // Those that setting these one after another gives.
+    fn of_each(alloc: Global, pairs: Vec<NameValue>) -> Result<Base, AllocError>
+        ensures { IfOk result (λ base. base ≡ with_all pairs.items []) }
+    {
+        let mut base = Base {
+            pairs: Vec::with_capacity(alloc, pairs.len())?,
+        };
+        let mut rest = VecDeque::from(pairs);
+        while let Some(pair) = rest.pop_front() {
+            base.add(pair)?;
+        }
+        Ok(base)
+    }
+
     fn remove(&mut self, place: usize)
         requires { place < length self.old }
         ensures { self.new ≡ remove self.old place }
@@ -117,7 +160,7 @@ impl Base {
 }
 
 /// The pairs of a message, seen as their list.
-#[derive(Debug, Drop)]
+#[derive(Drop)]
 pub(crate) struct Pairs {
     alloc: Global,
     base: Arc<Base>,
@@ -137,13 +180,24 @@ impl Pairs {
     pub(crate) fn new(alloc: Global) -> Result<Pairs, AllocError>
         ensures { IfOk result (λ pairs. pairs ≡ []) }
     {
-        Pairs::of(alloc, SmallVec::new(alloc))
+        Pairs::of(alloc, Vec::new(alloc))
     }
 
-    pub(crate) fn of(alloc: Global, pairs: SmallVec<NameValue, FEW>) -> Result<Pairs, AllocError>
+    pub(crate) fn of(alloc: Global, pairs: Vec<NameValue>) -> Result<Pairs, AllocError>
         ensures { IfOk result (λ shared. shared ≡ pairs.items) }
     {
         let base = Base { pairs };
+        Ok(Pairs {
+            alloc,
+            base: Arc::new(alloc, base)?,
+        })
+    }
+
+    /// Those that setting these one after another gives, each put where its name belongs.
+    pub(crate) fn of_each(alloc: Global, pairs: Vec<NameValue>) -> Result<Pairs, AllocError>
+        ensures { IfOk result (λ shared. shared ≡ with_all pairs.items []) }
+    {
+        let base = Base::of_each(alloc, pairs)?;
         Ok(Pairs {
             alloc,
             base: Arc::new(alloc, base)?,
@@ -156,6 +210,17 @@ impl Pairs {
         Ok(Pairs {
             alloc: self.alloc,
             base: Arc::try_clone(&self.base)?,
+        })
+    }
+
+    /// The same, in a list of its own, which has room for so many more.
+    pub(crate) fn with_room(&self, more: usize) -> Result<Pairs, AllocError>
+        ensures { IfOk result (λ pairs. pairs ≡ self.now) }
+    {
+        let base = self.base.with_room(self.alloc, more)?;
+        Ok(Pairs {
+            alloc: self.alloc,
+            base: Arc::new(self.alloc, base)?,
         })
     }
 

@@ -5,18 +5,16 @@ ghost use Rattle.sg_time.specs.Stamp.{IsValidStamp};
 ghost use Rattle.sg_msg.specs.Build.{name_of, MayName, some_pair, built};
 
 use crate::Message;
-use crate::base::{FEW, Pairs};
 use crate::pair::NameValue;
-use crate::sorting::sorted;
+use crate::sorting::in_order;
 use crate::tags::Tags;
 use bytes::Bytes;
 use sg_time::Stamp;
-use smallvec::SmallVec;
 use std::alloc::{AllocError, Global};
 use std::marker::Model;
 
 /// What a pair is called. The names that most records have take no memory.
-#[derive(Debug, Drop)]
+#[derive(Drop)]
 pub enum PairName {
     /// `HOST`
     Host,
@@ -49,13 +47,13 @@ impl PairName {
 
 /// A message that is being made. It says what the same `set_bytes` in the same order would make it
 /// say, in time in proportion to the number of its pairs times its logarithm.
-#[derive(Debug, Drop)]
+#[derive(Drop)]
 pub struct MessageBuilder {
     alloc: Global,
     pri: u8,
     sent: Stamp,
     received: Stamp,
-    pairs: SmallVec<NameValue, FEW>,
+    pairs: Vec<NameValue>,
     tags: Tags,
 }
 
@@ -98,9 +96,16 @@ impl MessageBuilder {
             pri,
             sent,
             received,
-            pairs: SmallVec::new(alloc),
+            pairs: Vec::new(alloc),
             tags: Tags::new(alloc),
         }
+    }
+
+    /// Makes room for so many pairs more. On an error the builder is as it was.
+    pub fn reserve(&mut self, pairs: usize) -> Result<(), AllocError>
+        ensures { self.new ≡ self.old }
+    {
+        self.pairs.reserve_exact(pairs)
     }
 
     /// Gives the name this value, in place of the one that it was given before. The value's memory is
@@ -151,8 +156,7 @@ impl MessageBuilder {
     pub fn message(self) -> Result<Message, AllocError>
         ensures { IfOk result (λ message. message ≡ built self) }
     {
-        let pairs = sorted(self.alloc, self.pairs)?;
-        let pairs = Pairs::of(self.alloc, pairs)?;
+        let pairs = in_order(self.alloc, self.pairs)?;
         Ok(Message::of(self.pri, self.sent, self.received, pairs, self.tags))
     }
 }

@@ -16,7 +16,6 @@ use std::marker::Model;
 ///
 /// Handles share their pairs and their tags. A change is that handle's own: every other handle says
 /// what it said before.
-#[derive(Debug)]
 pub struct Message {
     pri: u8,
     sent: Stamp,
@@ -115,6 +114,20 @@ impl Message {
             sent: self.sent,
             received: self.received,
             pairs: self.pairs.share()?,
+            tags: self.tags.share()?,
+        })
+    }
+
+    /// Another handle, which says the same, and has a list of pairs of its own, with room for so many
+    /// more. No byte is copied.
+    pub fn with_room(&self, more: usize) -> Result<Message, AllocError>
+        ensures { IfOk result (λ message. message ≡ self.now) }
+    {
+        Ok(Message {
+            pri: self.pri,
+            sent: self.sent,
+            received: self.received,
+            pairs: self.pairs.with_room(more)?,
             tags: self.tags.share()?,
         })
     }

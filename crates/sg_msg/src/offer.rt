@@ -3,7 +3,7 @@
 use crate::Message;
 
 /// A message that a path gives to a destination.
-#[derive(Debug, Drop)]
+#[derive(Drop)]
 pub struct Offer {
     /// The destination's number.
     pub dest: u32,

@@ -1,12 +1,12 @@
 // A name and its value.
-ghost use Rattle.std.specs.Prelude.{◌≡◌, []};
+ghost use Rattle.std.specs.Prelude.{◌≡◌};
 
 use bytes::Bytes;
 use std::alloc::AllocError;
 use std::marker::Model;
 
 /// A name and its value.
-#[derive(Debug, Drop)]
+#[derive(Drop)]
 pub(crate) struct NameValue {
     name: Bytes,
     value: Bytes,
@@ -39,19 +39,17 @@ impl NameValue {
         &self.value
     }
 
+    pub(crate) fn into_value(self) -> Bytes
+        ensures { result ≡ self.value }
+    {
+        let NameValue { name: _, value } = self;
+        value
+    }
+
     pub(crate) fn put(&mut self, value: Bytes)
         ensures { self.new ≡ record self.old { value = value } }
     {
         self.value = value;
-    }
-}
-
-// What the places hold that are kept ready for a message's first pairs.
-impl Default for NameValue {
-    ghost is_default = { λ pair. pair ≡ record { name = []; value = [] } };
-
-    fn default() -> NameValue {
-        NameValue::new(Bytes::new(), Bytes::new())
     }
 }
 

@@ -9,7 +9,7 @@ use std::marker::Model;
 use std::sync::Arc;
 
 /// The tags in order.
-#[derive(Debug, Drop)]
+#[derive(Drop)]
 struct TagList {
     tags: Vec<Bytes>,
 }
@@ -50,7 +50,7 @@ impl TagList {
 }
 
 /// The tags of a message, seen as their list, which takes no memory where it is empty from the start.
-#[derive(Debug, Drop)]
+#[derive(Drop)]
 pub(crate) struct Tags {
     alloc: Global,
     list: Option<Arc<TagList>>,

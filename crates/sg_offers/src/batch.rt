@@ -17,7 +17,7 @@ use std::alloc::{AllocError, Global};
 
 /// The entry of an offer: the number of its destination, its block where it may go to a disk-buffer,
 /// and whether the disk-buffer takes it, if its store works throughout.
-#[derive(Debug, Drop)]
+#[derive(Drop)]
 pub struct Payload {
     pub dest: u32,
     pub block: Option<Block>,
@@ -26,14 +26,14 @@ pub struct Payload {
 
 /// What becomes of the records: the verdicts of all their offers, in order, and each record with the
 /// acknowledgements that it needs.
-#[derive(Debug, Drop)]
+#[derive(Drop)]
 pub struct BatchVerdicts {
     pub verdicts: Vec<Verdict>,
     pub begun: Vec<BegunRecord>,
 }
 
 /// All that a batch takes memory for.
-#[derive(Debug, Drop)]
+#[derive(Drop)]
 pub struct Batch {
     /// Those of all offers, in order.
     pub payloads: Vec<Payload>,

@@ -17,7 +17,7 @@ use Rattle.sg_counter.specs.Exchanges.{Exchange}
 use Rattle.sg_counter.specs.declared.calls.CoreCall.{CoreCall}
 use Rattle.sg_counter.specs.declared.calls.CoreReply.{CoreReply}
 use Rattle.sg_actor.specs.Sources.{AreOf}
-use Rattle.sg_actor.specs.Rendering.{frame_by, frames_by, sent_of}
+use Rattle.sg_actor.specs.Rendering.{frame_by, frames_by, most_bytes, most_entries, sent_of}
 use Rattle.sg_actor.specs.DestTurns.{shown_in, SendsWith}
 use Rattle.sg_actor.specs.declared.outage.Outage.{Outage}
 use Rattle.sg_actor.specs.declared.rendering.DestSpec.{DestSpec}
@@ -58,9 +58,9 @@ until-if false k n f fs h = omega (arith, h)
 
 sent-few : (spec : DestSpec) (messages : List Content) → length (sent_of spec messages) ≤ length messages
 sent-few spec messages =
-    let most = until-few 262144 (frames_by spec (take 100 messages)) in
-    let frames : length (frames_by spec (take 100 messages)) ≡ length (take 100 messages) = length-map (take 100 messages) (frame_by spec) in
-    let few = length-take 100 messages in
+    let most = until-few most_bytes (frames_by spec (take most_entries messages)) in
+    let frames : length (frames_by spec (take most_entries messages)) ≡ length (take most_entries messages) = length-map (take most_entries messages) (frame_by spec) in
+    let few = length-take most_entries messages in
     omega (arith, most, frames, few)
 
 -- a turn of a destination that isn't given up, and one of one that is

@@ -96,14 +96,14 @@ counts-first T d place (suc n) count first well (x ∷ made) a b w messages show
     let all : sum (settled_by x.call x.reply ++ settled_in made) ≡ suc n = (let none' = rest.settles in omega (arith, many, none')) in
     record { shows = (one.0, rest.shows); settles = all }
 
-counts-behind : (T : Type 0) (d taken count first : ℕ) (well : Bool) (reply : CoreReply) (made : List Exchange) (a b w : CoreView) → StepOfView T a b (Front d 100) reply → RunViewed T b made w → FollowsFront d taken count well reply made
+counts-behind : (T : Type 0) (d most taken count first : ℕ) (well : Bool) (reply : CoreReply) (made : List Exchange) (a b w : CoreView) → StepOfView T a b (Front d most) reply → RunViewed T b made w → FollowsFront d taken count well reply made
     → taken ≤ length (shown_by reply ++ shown_in made) → count ≡ first + taken → CountsTaken first taken made
-counts-behind T d taken count first well (FrontReply (Ok (Entries place []))) made a b w s r f h is = counts-none first taken made f.0 f.1
-counts-behind T d taken count first well (FrontReply (Ok (Entries place (m ∷ ms)))) made a b w s r f h is = counts-first T d place taken count first well made a b w (m ∷ ms) s r f h is
-counts-behind T d taken count first well (FrontReply (Ok Empty)) made a b w s r f h is = counts-none first taken made f.0 f.1
-counts-behind T d taken count first well (FrontReply (Ok FrontBroken)) made a b w s r f h is = counts-none first taken made f.0 f.1
-counts-behind T d taken count first well (FrontReply (Err e)) made a b w s r f h is = counts-none first taken made f.0 f.1
-counts-behind T d taken count first well reply made a b w s r f h is = absurd s
+counts-behind T d most taken count first well (FrontReply (Ok (Entries place []))) made a b w s r f h is = counts-none first taken made f.0 f.1
+counts-behind T d most taken count first well (FrontReply (Ok (Entries place (m ∷ ms)))) made a b w s r f h is = counts-first T d place taken count first well made a b w (m ∷ ms) s r f h is
+counts-behind T d most taken count first well (FrontReply (Ok Empty)) made a b w s r f h is = counts-none first taken made f.0 f.1
+counts-behind T d most taken count first well (FrontReply (Ok FrontBroken)) made a b w s r f h is = counts-none first taken made f.0 f.1
+counts-behind T d most taken count first well (FrontReply (Err e)) made a b w s r f h is = counts-none first taken made f.0 f.1
+counts-behind T d most taken count first well reply made a b w s r f h is = absurd s
 
 counts-front : (first n d most : ℕ) (x : Exchange) (made : List Exchange) → x.call ≡ Front d most → CountsTaken first n made → CountsTaken first n (x ∷ made)
 counts-front first n d most x made is h =
@@ -114,7 +114,7 @@ counts-front first n d most x made is h =
 counts-turn : (T : Type 0) (d taken count first : ℕ) (well : Bool) (made : List Exchange) (v w : CoreView) → RunViewed T v made w → DeliversFront d taken count well made → taken ≤ length (shown_in made) → count ≡ first + taken → CountsTaken first taken made
 counts-turn T d taken count first well [] v w r f h is = counts-none first taken [] refl f
 counts-turn T d taken count first well (x ∷ made) v w (a, (g, (b, (s, r)))) f h is =
-    counts-front first taken d 100 x made f.0 (counts-behind T d taken count first well x.reply made a b w (subst (λ c. StepOfView T a b c x.reply) f.0 s) r f.1 h is)
+    counts-front first taken d f.0.0 x made f.0.1 (counts-behind T d f.0.0 taken count first well x.reply made a b w (subst (λ c. StepOfView T a b c x.reply) f.0.1 s) r f.1 h is)
 
 -- All turns.
 

@@ -113,7 +113,7 @@ follows-none d taken count well (StoredReply result) made h none = h.0
 calm-delivers : (d taken count : ℕ) (well : Bool) (made : List Exchange) → DeliversFront d taken count well made → shown_in made ≡ [] → AllCalm made
 calm-delivers d taken count well [] h none e has = absurd has
 calm-delivers d taken count well (f ∷ rest) h none e (inl same) =
-    let calm : IsCalm f.call f.reply = subst (λ (c : CoreCall). IsCalm c f.reply) (sym h.0) tt in
+    let calm : IsCalm f.call f.reply = subst (λ (c : CoreCall). IsCalm c f.reply) (sym h.0.1) tt in
     subst (λ (y : Exchange). IsCalm y.call y.reply) same calm
 calm-delivers d taken count well (f ∷ rest) h none e (inr has) =
     let parts = both-nil (shown_by f.reply) (shown_in rest) none in

@@ -183,20 +183,20 @@ nothing-made T v a b w taken made ms g same r (none, z) =
 adds-before : (T : Type 0) (v a w : CoreView) (n : ℕ) (ms : List Content) → GrowsInView v a → Adds T a w n ms → Adds T v w n ms
 adds-before T v a w n ms g h = record { added = h.added; settled = h.settled ∙ ap (λ xs. xs ++ h.added) g.settled; count = h.count; told = h.told }
 
-front-adds : (T : Type 0) (d taken count : ℕ) (well : Bool) (reply : CoreReply) (made : List Exchange) (v a b w : CoreView) → GrowsInView v a → StepOfView T a b (Front d 100) reply → RunViewed T b made w → FollowsFront d taken count well reply made
+front-adds : (T : Type 0) (d most taken count : ℕ) (well : Bool) (reply : CoreReply) (made : List Exchange) (v a b w : CoreView) → GrowsInView v a → StepOfView T a b (Front d most) reply → RunViewed T b made w → FollowsFront d taken count well reply made
     → taken ≤ length (shown_by reply ++ shown_in made) → Adds T v w taken (take taken (shown_by reply ++ shown_in made))
-front-adds T d taken count well (FrontReply (Ok (Entries place []))) made v a b w g s r f h = nothing-made T v a b w taken made (shown_in made) g s.0 r f
-front-adds T d taken count well (FrontReply (Ok (Entries place (m ∷ ms)))) made v a b w g s r f h =
+front-adds T d most taken count well (FrontReply (Ok (Entries place []))) made v a b w g s r f h = nothing-made T v a b w taken made (shown_in made) g s.0 r f
+front-adds T d most taken count well (FrontReply (Ok (Entries place (m ∷ ms)))) made v a b w g s r f h =
     adds-before T v a w taken (take taken ((m ∷ ms) ++ shown_in made)) g (settles-first T d place taken count well made a b w (m ∷ ms) s r f h)
-front-adds T d taken count well (FrontReply (Ok Empty)) made v a b w g s r f h = nothing-made T v a b w taken made (shown_in made) g s r f
-front-adds T d taken count well (FrontReply (Ok FrontBroken)) made v a b w g s r f h = nothing-made T v a b w taken made (shown_in made) g s r f
-front-adds T d taken count well (FrontReply (Err e)) made v a b w g s r f h = nothing-made T v a b w taken made (shown_in made) g s r f
-front-adds T d taken count well reply made v a b w g s r f h = absurd s
+front-adds T d most taken count well (FrontReply (Ok Empty)) made v a b w g s r f h = nothing-made T v a b w taken made (shown_in made) g s r f
+front-adds T d most taken count well (FrontReply (Ok FrontBroken)) made v a b w g s r f h = nothing-made T v a b w taken made (shown_in made) g s r f
+front-adds T d most taken count well (FrontReply (Err e)) made v a b w g s r f h = nothing-made T v a b w taken made (shown_in made) g s r f
+front-adds T d most taken count well reply made v a b w g s r f h = absurd s
 
 turn-adds : (T : Type 0) (d taken count : ℕ) (well : Bool) (made : List Exchange) (v w : CoreView) → RunViewed T v made w → DeliversFront d taken count well made → taken ≤ length (shown_in made) → Adds T v w taken (take taken (shown_in made))
 turn-adds T d taken count well [] v w r f h = none-taken T v w taken [] f r.settled
 turn-adds T d taken count well (x ∷ made) v w (a, (g, (b, (s, r)))) f h =
-    front-adds T d taken count well x.reply made v a b w g (subst (λ c. StepOfView T a b c x.reply) f.0 s) r f.1 h
+    front-adds T d f.0.0 taken count well x.reply made v a b w g (subst (λ c. StepOfView T a b c x.reply) f.0.1 s) r f.1 h
 
 -- Turns.
 

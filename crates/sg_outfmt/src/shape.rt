@@ -7,7 +7,6 @@ use sg_template::{Template, TemplateFault};
 use std::alloc::{AllocError, Global};
 
 /// What a frame is made of.
-#[derive(Debug)]
 pub enum Shape {
     /// A template's text.
     Text(Template),
@@ -45,7 +44,7 @@ impl Shape {
 }
 
 /// The kinds of destinations.
-#[derive(Clone, Copy, Debug, PartialEq, Eq, Drop)]
+#[derive(Clone, Copy, PartialEq, Eq, Drop)]
 pub enum DriverKind {
     File,
     Network,

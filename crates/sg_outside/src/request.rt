@@ -4,7 +4,7 @@ ghost use Rattle.std.specs.Prelude.{◌≡◌, IfOk};
 use sg_device::{Name, NoMemory};
 
 /// A store: a file of the daemon's own, made where it is missing if `create` says so.
-#[derive(Debug, Drop)]
+#[derive(Drop)]
 pub struct StoreSpec {
     pub name: Name,
     pub create: bool,
@@ -27,7 +27,7 @@ impl StoreSpec {
 }
 
 /// An inlet. With `once` a file ends at its end, and a slot after its first connection.
-#[derive(Debug, Drop)]
+#[derive(Drop)]
 pub enum InletSpec {
     /// The file of this path, whose lines are cut into pieces of at most `limit` bytes
     /// (`log-msg-size()`).
@@ -73,7 +73,7 @@ impl InletSpec {
 
 /// An outlet. `reopen` is the time in seconds from one try to open it to the next
 /// (`time-reopen()`), 0 where it is tried again at once.
-#[derive(Debug, Drop)]
+#[derive(Drop)]
 pub enum OutletSpec {
     /// The file of this path, appended to, and made with this mode where it is missing (`perm()`).
     /// With `fsync` a frame counts as taken once it is on the disk.

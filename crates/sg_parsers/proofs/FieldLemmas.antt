@@ -1,48 +1,16 @@
--- Fields, one byte on.
-use Rattle.std.proofs.Common.{◌≡◌, ℕ, zero, suc, ◌+◌, ◌-◌, ◌≤◌, ◌<◌, Bool, true, false, nat_eq, nat_lt, cond, get_or, append_assoc, append-nil, List, [], ◌∷◌, ◌++◌, length, take, drop, Option, Some, None, refl, sym, ap, ◌∙◌, arith}
+-- Fields: what they say, and what stands behind them.
+use Rattle.std.proofs.Common.{◌≡◌, ℕ, zero, suc, ◌+◌, ◌-◌, ◌≤◌, ◌<◌, Bool, true, false, nat_eq, nat_lt, cond, List, [], ◌∷◌, length, take, drop, Option, Some, None, refl, sym, ap, ◌∙◌, arith}
 use Rattle.std.specs.List.{prefix_len}
 use Rattle.std.proofs.lemmas.Bool.{true≢false, false≢true, lt-ltb}
-use Rattle.std.proofs.lemmas.List.{drop_all, drop-drop}
+use Rattle.std.proofs.lemmas.List.{drop-drop}
 use Rattle.sg_parsers.specs.declared.fields.Split.{Split}
 use Rattle.sg_parsers.specs.Csv.{behind_field, column_pairs}
 use Rattle.sg_msg.specs.Priority.{has_at}
-use Rattle.sg_parsers.specs.declared.fields.FieldPosition.{FieldPosition}
-use Rattle.sg_parsers.specs.declared.fields.FieldPosition.TheVariants.{Front, Plain, Quoted, Closing}
-use Rattle.sg_parsers.specs.Fields.{is_no_quote, ends, behind, added, len_from, field_len, value_from, field_value, fields_from}
-use Rattle.sg_list.proofs.ListLemmas.{from_here}
+use Rattle.sg_parsers.specs.declared.fields.FieldPosition.TheVariants.{Plain, Quoted, Closing}
+use Rattle.sg_parsers.specs.Fields.{is_no_quote, field_len, value_from, field_value}
 
 abbrev pub Split-of : List ℕ → Option (List ℕ) → Split
 Split-of written rest = record { written = written; rest = rest }
-
-pub len_here : (delimiters : List ℕ) (within : FieldPosition) (text : List ℕ) (place b : ℕ) → place < length text → get_or text place 0 ≡ b → ends delimiters within b ≡ true → len_from delimiters within (drop place text) ≡ 0
-len_here delimiters within text place b h e test = ap (len_from delimiters within) (from_here text place b h e) ∙ rw test refl
-
-pub len_later : (delimiters : List ℕ) (within : FieldPosition) (text : List ℕ) (place b : ℕ) → place < length text → get_or text place 0 ≡ b → ends delimiters within b ≡ false → len_from delimiters within (drop place text) ≡ 1 + len_from delimiters (behind within b) (drop (place + 1) text)
-len_later delimiters within text place b h e test = ap (len_from delimiters within) (from_here text place b h e) ∙ rw test refl
-
-pub len_end : (delimiters : List ℕ) (within : FieldPosition) (text : List ℕ) (place : ℕ) → length text ≤ place → len_from delimiters within (drop place text) ≡ 0
-len_end delimiters within text place h = ap (len_from delimiters within) (drop_all place text h)
-
-pub count_here : (delimiters : List ℕ) (within : FieldPosition) (text : List ℕ) (place b : ℕ) → place < length text → get_or text place 0 ≡ b → ends delimiters within b ≡ true → fields_from delimiters within (drop place text) ≡ 1 + fields_from delimiters Front (drop (place + 1) text)
-count_here delimiters within text place b h e test = ap (fields_from delimiters within) (from_here text place b h e) ∙ rw test refl
-
-pub count_later : (delimiters : List ℕ) (within : FieldPosition) (text : List ℕ) (place b : ℕ) → place < length text → get_or text place 0 ≡ b → ends delimiters within b ≡ false → fields_from delimiters within (drop place text) ≡ fields_from delimiters (behind within b) (drop (place + 1) text)
-count_later delimiters within text place b h e test = ap (fields_from delimiters within) (from_here text place b h e) ∙ rw test refl
-
-pub count_end : (delimiters : List ℕ) (within : FieldPosition) (text : List ℕ) (place : ℕ) → length text ≤ place → fields_from delimiters within (drop place text) ≡ 1
-count_end delimiters within text place h = ap (fields_from delimiters within) (drop_all place text h)
-
--- what one more byte adds to a value
-pub value_more : (value : List ℕ) (within : FieldPosition) (text : List ℕ) (place b : ℕ) (whole : List ℕ) → place < length text → get_or text place 0 ≡ b → value ++ value_from within (drop place text) ≡ whole → (value ++ added within b) ++ value_from (behind within b) (drop (place + 1) text) ≡ whole
-value_more value within text place b whole h e so_far =
-    let here : value_from within (drop place text) ≡ added within b ++ value_from (behind within b) (drop (place + 1) text) = ap (value_from within) (from_here text place b h e) in
-    append_assoc value (added within b) (value_from (behind within b) (drop (place + 1) text))
-    ∙ (ap (λ t. value ++ t) (sym here) ∙ so_far)
-
-pub value_all : (value : List ℕ) (within : FieldPosition) (text : List ℕ) (place : ℕ) (whole : List ℕ) → length text ≤ place → value ++ value_from within (drop place text) ≡ whole → value ≡ whole
-value_all value within text place whole h so_far =
-    let here : value_from within (drop place text) ≡ [] = ap (value_from within) (drop_all place text h) in
-    sym (append-nil value) ∙ (ap (λ t. value ++ t) (sym here) ∙ so_far)
 
 -- what stands outside of quotes says itself
 plain_value : (text : List ℕ) → value_from Plain text ≡ text

@@ -4,3 +4,4 @@ pub mod ValueLemmas
 pub mod PairLemmas
 pub mod Sent
 pub mod Written
+pub mod RunLemmas

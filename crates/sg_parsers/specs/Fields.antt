@@ -1,7 +1,8 @@
 -- The fields of a text with delimiters (syslog-ng's administration guide, "Parsing messages with comma-separated and similar values";
 -- a quote within quotes is doubled: dialect(escape-double-char), quote-pairs('""')).
-use Rattle.std.specs.Prelude.{ℕ, ◌+◌, ◌==◌, Bool, false, not, if◌then◌else◌, List, [], ◌∷◌, ◌++◌}
-use Rattle.std.specs.List.{list_any}
+use Rattle.std.specs.Prelude.{ℕ, ◌+◌, ◌==◌, ◌&&◌, Bool, false, not, min, if◌then◌else◌, List, [], ◌∷◌, ◌++◌, length}
+use Rattle.std.specs.List.{list_any, prefix_len}
+use Rattle.sg_msg.specs.Priority.{has_at}
 use Rattle.sg_parsers.specs.declared.fields.FieldPosition.{FieldPosition}
 use Rattle.sg_parsers.specs.declared.fields.FieldPosition.TheVariants.{Front, Plain, Quoted, Closing}
 
@@ -59,3 +60,11 @@ fields_from delimiters within (b ∷ text) =
 
 abbrev pub field_count : List ℕ → List ℕ → ℕ
 field_count delimiters text = fields_from delimiters Front text
+
+-- the text begins with a quote that is no delimiter
+abbrev pub opens : List ℕ → List ℕ → Bool
+opens delimiters text = has_at text 0 34 && not (is_delimiter delimiters 34)
+
+-- how many bytes stand up to and with the first quote, all where there is none
+abbrev pub through_quote : List ℕ → ℕ
+through_quote text = min (prefix_len is_no_quote text + 1) (length text)

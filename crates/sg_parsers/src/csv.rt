@@ -4,10 +4,11 @@ ghost use Rattle.std.specs.List.{list_all};
 ghost use Rattle.sg_parsers.specs.Names.{may_name, if_name};
 ghost use Rattle.sg_parsers.specs.Csv.{prefixed, if_names, behind_field, column_value, csv_pairs, csv_takes, csv_parsed, are_enough};
 
+use crate::columns::set_columns;
 use crate::fields::{field_count, field_value, split_field};
 use crate::found::Found;
 use crate::key::{Key, joined, key_of};
-use crate::set::set_all;
+use crate::set::{FEW, set_all};
 use bytes::Bytes;
 use sg_device::{Name, NoMemory};
 use sg_list::Seq;
@@ -188,6 +189,10 @@ impl Csv {
     {
         if !self.takes(text.as_slice()) {
             return Ok(false);
+        }
+        if self.names.len() <= FEW {
+            set_columns(alloc, self, text.clone()?, message)?;
+            return Ok(true);
         }
         let mut pairs = Seq::empty(alloc);
         push_columns(alloc, self, text.clone()?, &mut pairs)?;

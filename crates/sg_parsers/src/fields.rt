@@ -1,9 +1,9 @@
 // The fields of a text with delimiters.
-ghost use Rattle.std.specs.Prelude.{◌≡◌, ◌≤◌, ◌++◌, take, length, IfOk, OnOk};
-ghost use Rattle.std.specs.List.{prefix_len};
-ghost use Rattle.sg_parsers.specs.Fields.{is_delimiter, is_no_quote, ends, behind, added, field_len, field_value, field_count};
+ghost use Rattle.std.specs.Prelude.{◌≡◌, ◌≤◌, ◌<◌, ◌++◌, true, take, length, IfOk, OnOk};
+ghost use Rattle.sg_parsers.specs.Fields.{opens, through_quote, behind, added, field_len, field_value, field_count};
 ghost use Rattle.sg_parsers.specs.Csv.{behind_field};
 
+use crate::skips::{is_delimiter, plain_len, quote_place};
 use bytes::Bytes;
 use sg_device::NoMemory;
 use sg_msg::has_at;
@@ -20,24 +20,6 @@ pub(crate) enum FieldPosition {
     Quoted,
     /// Behind a quote in quotes, which closes them unless another one follows.
     Closing,
-}
-
-fn is_delimiter(delimiters: &[u8], byte: u8) -> bool
-    ensures { result ≡ is_delimiter delimiters.now byte }
-{
-    delimiters.contains(&byte)
-}
-
-// Whether the byte ends the field.
-fn ends(delimiters: &[u8], within: FieldPosition, byte: u8) -> bool
-    ensures { result ≡ ends delimiters.now within byte }
-{
-    match within {
-        FieldPosition::Quoted => false,
-        FieldPosition::Front => is_delimiter(delimiters, byte),
-        FieldPosition::Plain => is_delimiter(delimiters, byte),
-        FieldPosition::Closing => is_delimiter(delimiters, byte),
-    }
 }
 
 // Where the byte behind this one stands.
@@ -70,19 +52,51 @@ fn behind(within: FieldPosition, byte: u8) -> FieldPosition
     }
 }
 
+// Whether the text begins with a quote that is no delimiter.
+fn opens(delimiters: &[u8], text: &[u8]) -> bool
+    ensures value { result ≡ opens delimiters.now text.now }
+    ensures within { result ≡ true → 0 < length text.now }
+{
+    has_at(text, 0, b'"') && !is_delimiter(delimiters, b'"')
+}
+
+// How many bytes stand up to and with the first quote.
+fn through_quote(text: &[u8]) -> usize
+    ensures value { result ≡ through_quote text.now }
+    ensures within { result ≤ length text.now }
+{
+    let place = quote_place(text);
+    if place == text.len() {
+        return place;
+    }
+    place + 1
+}
+
+// How many bytes a field has that begins with a quote.
+fn quoted_len(delimiters: &[u8], text: &[u8]) -> usize
+    requires { opens delimiters.now text.now ≡ true }
+    ensures value { result ≡ field_len delimiters.now text.now }
+    ensures within { result ≤ length text.now }
+{
+    let mut len = 1;
+    'quotes: while len < text.len() {
+        len += through_quote(&text[len..]);
+        if !opens(delimiters, &text[len..]) {
+            return len + plain_len(delimiters, &text[len..]);
+        }
+        len += 1;
+    }
+    text.len()
+}
+
 fn field_len(delimiters: &[u8], text: &[u8]) -> usize
     ensures value { result ≡ field_len delimiters.now text.now }
     ensures within { result ≤ length text.now }
 {
-    let mut within = FieldPosition::Front;
-    for (place, byte) in text.iter().enumerate() {
-        let byte = *byte;
-        if ends(delimiters, within, byte) {
-            return place;
-        }
-        within = behind(within, byte);
+    if opens(delimiters, text) {
+        return quoted_len(delimiters, text);
     }
-    text.len()
+    plain_len(delimiters, text)
 }
 
 /// How many fields the text has.
@@ -90,15 +104,12 @@ pub(crate) fn field_count(delimiters: &[u8], text: &[u8]) -> usize
     ensures { result ≡ field_count delimiters.now text.now }
 {
     let mut count: usize = 1;
-    let mut within = FieldPosition::Front;
-    for byte in text {
-        let byte = *byte;
-        if ends(delimiters, within, byte) {
-            count += 1;
-            within = FieldPosition::Front;
-        } else {
-            within = behind(within, byte);
-        }
+    let mut rest = text;
+    let mut len = field_len(delimiters, rest);
+    'fields: while len < rest.len() {
+        count += 1;
+        rest = &rest[len + 1..];
+        len = field_len(delimiters, rest);
     }
     count
 }
@@ -172,20 +183,6 @@ fn unquoted(alloc: Global, written: &[u8]) -> Result<Vec<u8>, NoMemory>
         within = behind(within, byte);
     }
     Ok(value)
-}
-
-fn is_no_quote(byte: u8) -> bool
-    ensures { result ≡ is_no_quote byte }
-{
-    byte != b'"'
-}
-
-// How many bytes stand before the first quote.
-fn quote_place(text: &[u8]) -> usize
-    ensures value { result ≡ prefix_len is_no_quote text.now }
-    ensures within { result ≤ length text.now }
-{
-    text.iter().take_while(|byte| is_no_quote(**byte)).count()
 }
 
 /// What a field says. It shares the text's memory, but where two quotes stand for one or something

@@ -1,6 +1,7 @@
 //! Parsers: names and values that are read from a text of a message, as `csv-parser()` and `kv-parser()` do.
 #![tactic(auto)]
 
+mod columns;
 mod csv;
 mod fields;
 mod found;
@@ -11,6 +12,7 @@ mod pairs;
 mod parser;
 mod rule;
 mod set;
+mod skips;
 mod threads;
 mod values;
 

@@ -130,8 +130,8 @@ fn made_anew(alloc: Global, message: &Message, pairs: &[Found]) -> Result<Messag
     Ok(builder.message()?)
 }
 
-// Up to so many pairs, putting each in its place takes less than making the message anew.
-const FEW: usize = 64;
+/// Up to so many pairs, putting each in its place takes less than making the message anew.
+pub(crate) const FEW: usize = 64;
 
 /// Sets the pairs one after another. On an error the message is as it was.
 pub(crate) fn set_all(alloc: Global, pairs: &[Found], message: &mut Message) -> Result<(), NoMemory>
@@ -143,7 +143,7 @@ pub(crate) fn set_all(alloc: Global, pairs: &[Found], message: &mut Message) -> 
         *message = made_anew(alloc, message, pairs)?;
         return Ok(());
     }
-    let mut changed = message.share()?;
+    let mut changed = message.with_room(pairs.len())?;
     set_each(&mut changed, pairs)?;
     *message = changed;
     Ok(())

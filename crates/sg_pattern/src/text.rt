@@ -8,7 +8,7 @@ use sg_lex::Line;
 use std::alloc::AllocError;
 use thiserror::Error;
 
-#[derive(Debug, Drop)]
+#[derive(Drop)]
 pub struct PatternText {
     pub kind: Kind,
     pub text: Name,

@@ -3,6 +3,7 @@ pub mod Steps
 pub mod Trying
 pub mod Picking
 pub mod Over
+pub mod Apart
 pub mod Piping
 pub mod Kept
 pub mod Whole

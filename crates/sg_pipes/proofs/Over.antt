@@ -17,7 +17,7 @@ use Rattle.sg_pipes.proofs.Steps.{round-over}
 use Rattle.sg_pipes.proofs.Trying.{none-left}
 
 -- where none waits for it, the second round does nothing
-none-late : (at : StepsByPlace) (bs : List Branch) (m : Content) (f : Bool) → has_fallback bs ≡ false → round (siblings_of (branches_at at bs)) true m f ≡ stopped
+pub none-late : (at : StepsByPlace) (bs : List Branch) (m : Content) (f : Bool) → has_fallback bs ≡ false → round (siblings_of (branches_at at bs)) true m f ≡ stopped
 none-late at [] m f e = refl
 none-late at (b ∷ bs) m f e = go b.fallback e (none-late at bs m f)
   where
@@ -29,7 +29,7 @@ none-late at (b ∷ bs) m f e = go b.fallback e (none-late at bs m f)
     go true e h = absurd (cc)
     go false e h = h e
 
-twice-stopped : (s : WalkResult) → two_rounds s stopped ≡ s
+pub twice-stopped : (s : WalkResult) → two_rounds s stopped ≡ s
 twice-stopped s = go s.processed
   where
     go : (x : Bool) → cond x s (both s stopped) ≡ s

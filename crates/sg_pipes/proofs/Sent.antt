@@ -7,6 +7,7 @@ use Rattle.sg_filter.proofs.Sent.{filter}
 use Rattle.sg_rewrite.proofs.Sent.{rewrite}
 use Rattle.sg_parsers.proofs.Sent.{rule}
 use Rattle.sg_table.specs.contracts.pipe.Test as Test
+use Rattle.sg_r5424.proofs.names.SdNames.TheSendSync as names
 use Rattle.sg_pipes.proofs.peer.Peer.TheSendSync as peer
 use Rattle.sg_pipes.proofs.work.WalkWork.TheSendSync as work
 use Rattle.sg_table.specs.contracts.pipe.Pipe as Pipe
@@ -40,4 +41,4 @@ table : IsSend Table.the_field.row
 table = search (pipe, parts) depth 40 fits 40000
 
 pub pipes : IsSend Pipes.the_row
-pipes = recorded_send Pipes.the_field.row _ _ Pipes.the_type.to_one (struct_send (shape Pipes.the_type) (table, (work.the_field_send, (peer.the_field_send, tt))))
+pipes = recorded_send Pipes.the_field.row _ _ Pipes.the_type.to_one (struct_send (shape Pipes.the_type) (table, (work.the_field_send, (peer.the_field_send, (names.the_field_send, tt)))))

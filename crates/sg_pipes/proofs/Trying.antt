@@ -23,7 +23,7 @@ none-left [] (suc i) e = refl
 none-left (x ∷ xs) zero e = absurd (cc)
 none-left (x ∷ xs) (suc i) e = none-left xs i e
 
-some-left : (xs : List Branch) (i : ℕ) (b : Branch) → slice_get xs i ≡ Some b → drop i xs ≡ b ∷ drop (suc i) xs
+pub some-left : (xs : List Branch) (i : ℕ) (b : Branch) → slice_get xs i ≡ Some b → drop i xs ≡ b ∷ drop (suc i) xs
 some-left [] zero b e = absurd (cc)
 some-left [] (suc i) b e = absurd (cc)
 some-left (x ∷ xs) zero b e = let same : x ≡ b = cc in ap (λ (y : Branch). y ∷ xs) same

@@ -2,13 +2,14 @@
 use Rattle.std.specs.Prelude.{◌≡◌, ℕ, Bool, true, false, ◌&&◌, ◌||◌, List, [], ◌∷◌, ◌++◌, drop, reverse, Option, Some, slice_get, if◌then◌else◌}
 use Rattle.std.specs.List.{list_any}
 use Rattle.sg_msg.specs.Message.{Content}
+use Rattle.sg_msg.specs.declared.offer.Offer.{Offer}
 use Rattle.sg_pipes.specs.declared.gone.Gone.{Gone}
 use Rattle.sg_pipes.specs.Messages.{messages_of}
 use Rattle.sg_tree.specs.Walk.{WalkResult, Siblings, walk, round, each, then_each, both, two_rounds, after_deliveries}
 use Rattle.sg_table.specs.declared.pipe.Branch.{Branch}
 use Rattle.sg_table.specs.declared.pipe.Pipe.{Pipe}
 use Rattle.sg_table.specs.declared.pipe.Pipe.TheVariants as pipe
-use Rattle.sg_table.specs.Table.{siblings_of, branches_at, steps_at}
+use Rattle.sg_table.specs.Table.{StepsByPlace, siblings_of, branches_at, steps_at}
 use Rattle.sg_pipes.specs.declared.frame.SiblingList.{SiblingList}
 use Rattle.sg_pipes.specs.declared.frame.SiblingList.TheVariants.{Offered, At}
 use Rattle.sg_pipes.specs.declared.frame.SiblingTrial.{SiblingTrial}
@@ -28,6 +29,16 @@ group_of offered pipes (At place) = branches_of (slice_get pipes place)
 -- one of them waits for the second round
 abbrev pub has_fallback : List Branch → Bool
 has_fallback branches = list_any (λ branch. branch.fallback) branches
+
+-- for one of them it counts what the others leave
+abbrev pub has_final_or_fallback : List Branch → Bool
+has_final_or_fallback branches = list_any (λ branch. branch.is_final || branch.fallback) branches
+
+-- what they deliver, each walked by itself
+abbrev pub delivered_by : StepsByPlace → List Branch → Content → Bool → List Offer
+delivered_by at [] m f = []
+delivered_by at (branch ∷ more) m f =
+    (walk (at branch.start) m (f || branch.flow)).deliveries ++ delivered_by at more m f
 
 -- the first of the siblings is next, and nothing was left
 abbrev pub IsFirstTrial : SiblingList → Content → Bool → SiblingTrial → Type 0

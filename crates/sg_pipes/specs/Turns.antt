@@ -1,5 +1,5 @@
 -- What a turn of the work does.
-use Rattle.std.specs.Prelude.{◌≡◌, ◌||◌, ℕ, Bool, true, false, List, ◌++◌, reverse, Option, Some, None, slice_get}
+use Rattle.std.specs.Prelude.{◌≡◌, ◌||◌, ℕ, Bool, true, false, List, [], ◌∷◌, ◌++◌, reverse, Option, Some, None, slice_get}
 use Rattle.sg_msg.specs.Message.{Content}
 use Rattle.sg_tree.specs.Walk.{WalkResult, walk, stopped, after_deliveries}
 use Rattle.sg_table.specs.declared.pipe.Branch.{Branch}
@@ -12,7 +12,7 @@ use Rattle.sg_pipes.specs.declared.frame.SiblingTrial.{SiblingTrial}
 use Rattle.sg_pipes.specs.declared.frame.Passed.TheVariants.{On, Stopped, Arrived}
 use Rattle.sg_pipes.specs.declared.work.WalkWork.{WalkWork}
 use Rattle.sg_pipes.specs.Messages.{messages_of}
-use Rattle.sg_pipes.specs.Frames.{run, does, group_of}
+use Rattle.sg_pipes.specs.Frames.{run, does, group_of, delivered_by}
 
 -- all that was left so far
 abbrev pub now : WalkWork → WalkResult
@@ -48,7 +48,21 @@ TurnsWalk pipes frame old new =
 -- all that waited is done
 pub record WorksWalk (pipes : List Pipe) (old new : WalkWork) : Type 0 where
   pub offered : new.offered ≡ old.offered
+  pub frames : new.frames.items ≡ []
   pub done : run pipes old.offered.items (reverse old.frames.items) (now old) ≡ now new
+
+-- the branches, behind one that waits, if any
+abbrev pub behind : Option Branch → List Branch → List Branch
+behind None more = more
+behind (Some branch) more = branch ∷ more
+
+-- no frame waits, and with what is still to be walked it delivers what it did with what was to be
+abbrev pub DeliversWith : List Pipe → Content → Bool → WalkWork → List Branch → WalkWork
+    → List Branch → Type 0
+DeliversWith pipes m flow old before new after =
+    (new.offered ≡ old.offered) × (new.frames.items ≡ [])
+    × (new.offers.items ++ delivered_by (steps_at pipes) after m flow
+    ≡ old.offers.items ++ delivered_by (steps_at pipes) before m flow)
 
 -- a message at a pipe went on, was stopped, or is there still
 abbrev pub PassesPipe : List Pipe → ℕ → Content → Content → Bool → WalkWork → WalkWork → Passed

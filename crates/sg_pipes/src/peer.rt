@@ -2,6 +2,7 @@
 ghost use Rattle.std.specs.Prelude.{◌≡◌, OnOk};
 
 use bytes::Bytes;
+use sg_msg::is_same;
 use std::alloc::{AllocError, Global};
 
 /// The peer of the last record, whose memory is shared with the next ones of the same.
@@ -19,7 +20,7 @@ impl Peer {
     pub(crate) fn keep(&mut self, alloc: Global, name: &[u8]) -> Result<(), AllocError>
         ensures { OnOk result (self.new.name ≡ name.now) }
     {
-        if self.name.as_slice() == name {
+        if is_same(self.name.as_slice(), name) {
             return Ok(());
         }
         self.name = Bytes::copy_from_slice(alloc, name)?;

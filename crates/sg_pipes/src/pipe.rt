@@ -1,7 +1,7 @@
 // What single pipes do.
 ghost use Rattle.std.specs.Prelude.{◌≡◌, ◌<◌, ◌^◌, true, false, [], ◌∷◌, IfOk, IfSome, OnOk, slice_get};
 ghost use Rattle.sg_table.specs.Table.{IsPipeTable};
-ghost use Rattle.sg_pipes.specs.Frames.{IsWalkOver, group_of, has_fallback};
+ghost use Rattle.sg_pipes.specs.Frames.{IsWalkOver, group_of, has_fallback, has_final_or_fallback};
 ghost use Rattle.sg_pipes.specs.Pipes.{changed, is_end, is_met, last_driver, only_driver, lets_pass, rewritten_at, start_at, start_of};
 ghost use Rattle.sg_pipes.specs.Turns.{Enters, FiltersMessage};
 
@@ -173,6 +173,15 @@ pub(crate) fn alone(branches: &[Branch]) -> Option<Branch>
         }
         _ => None,
     }
+}
+
+/// Whether it counts for one of them what the others leave.
+pub(crate) fn has_final_or_fallback(branches: &[Branch]) -> bool
+    ensures { result ≡ has_final_or_fallback branches.now }
+{
+    branches
+        .iter()
+        .any(|branch| branch.is_final | branch.fallback)
 }
 
 fn is_late(branches: &[Branch]) -> bool

@@ -10,6 +10,7 @@ use crate::peer::Peer;
 use crate::work::WalkWork;
 use bytes::Bytes;
 use sg_msg::{Message, Offer};
+use sg_r5424::SdNames;
 use sg_route::Router;
 use sg_table::{Pipe, Table};
 use sg_tree::{InletRule, is_skipped, read_item};
@@ -21,6 +22,7 @@ pub struct Pipes {
     /// Its memory is used again for each record.
     work: WalkWork,
     peer: Peer,
+    names: SdNames,
     ghost within: { AreWoodsWithin (forest_of table) } by { AreWoodsWithin-prop (forest_of table) },
 }
 
@@ -30,6 +32,7 @@ impl Drop for Pipes {
             table: _table,
             work: _work,
             peer: _peer,
+            names: _names,
         } = self;
     }
 }
@@ -70,6 +73,7 @@ fn routed(
     at: i64,
     peer: &[u8],
     last: &mut Peer,
+    names: &mut SdNames,
 ) -> Result<Vec<Offer>, AllocError>
     requires inlet { inlet < length table.old.inlets.items }
     requires moment { (pos 0 ≤ℤ at) × (at ≤ℤ pos 250_000_000_000_000_000) }
@@ -83,7 +87,7 @@ fn routed(
         return Ok(Vec::new(alloc));
     }
     last.keep(alloc, peer)?;
-    let message = read_item(alloc, rule, item, at, &last.name)?;
+    let message = read_item(alloc, rule, names, item, at, &last.name)?;
     offers_of(table, work, inlet, message)
 }
 
@@ -98,6 +102,7 @@ impl Pipes {
             table,
             work: WalkWork::new(alloc),
             peer: Peer::none(),
+            names: SdNames::new(alloc),
         }
     }
 
@@ -117,6 +122,7 @@ impl Pipes {
             table,
             work: WalkWork::new(alloc),
             peer: Peer::none(),
+            names: SdNames::new(alloc),
         })
     }
 }
@@ -146,6 +152,7 @@ impl Router for Pipes {
             at,
             peer,
             &mut self.peer,
+            &mut self.names,
         )
     }
 }

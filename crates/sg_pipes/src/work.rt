@@ -2,18 +2,21 @@
 ghost use Rattle.std.specs.Prelude.{◌≡◌, ◌||◌, true, false, [], ◌∷◌, ◌++◌, IfOk, OnOk, List};
 ghost use Rattle.sg_tree.specs.Walk.{after_deliveries, branches, deliveries_to, stopped, walk};
 ghost use Rattle.sg_table.specs.Table.{IsPipeTable, steps_at};
+ghost use Rattle.sg_table.specs.declared.pipe.Branch.{Branch as ABranch};
 ghost use Rattle.sg_table.specs.declared.pipe.Pipe.{Pipe as APipe};
 ghost use Rattle.sg_pipes.specs.Chosen.{branches_for, is_for};
 ghost use Rattle.sg_pipes.specs.declared.frame.WalkFrame.TheVariants as frame;
 ghost use Rattle.sg_pipes.specs.declared.frame.SiblingList.TheVariants.{Offered};
 ghost use Rattle.sg_pipes.specs.Frames.{IsFirstTrial, does, from};
 ghost use Rattle.sg_pipes.specs.Messages.{messages_of};
-ghost use Rattle.sg_pipes.specs.Turns.{ComesToFrames, WorkComesTo, DeliversOffers, PassesPipe, Picks, TurnsWalk, WorksWalk, now};
+ghost use Rattle.sg_pipes.specs.Turns.{ComesToFrames, WorkComesTo, DeliversOffers, DeliversWith, PassesPipe, Picks, TurnsWalk, WorksWalk, behind, now};
 
 use crate::frame::{Passed, SiblingList, SiblingTrial, WaitingElements, WalkFrame};
 use crate::gone::Gone;
 use crate::messages::{Messages, reversed, take_last};
-use crate::pipe::{alone, branch_at, choose, enter, is_over, last_driver, passes, rewrite};
+use crate::pipe::{
+    alone, branch_at, choose, enter, has_final_or_fallback, is_over, last_driver, passes, rewrite,
+};
 use sg_msg::{Message, Offer};
 use sg_table::{Branch, Pipe, Top};
 use sg_tree::deliver;
@@ -254,6 +257,78 @@ impl WalkWork {
         }
     }
 
+    // Walks a statement whole, whatever comes out of it.
+    fn offer_whole(
+        &mut self,
+        pipes: &mut Vec<Pipe>,
+        branch: Branch,
+        message: Message,
+        flow: bool,
+    ) -> Result<(), AllocError>
+        requires table { IsPipeTable pipes.old.items }
+        requires frames { self.old.frames.items ≡ [] }
+        ensures delivers { OnOk result
+            (DeliversWith pipes.old.items message flow self.old (branch ∷ []) self.new []) }
+        ensures stays { pipes.new.items ≡ pipes.old.items }
+    {
+        self.walk(pipes, branch.start, message, flow | branch.flow, true)?;
+        self.work(pipes)?;
+        Ok(())
+    }
+
+    // The statement that waits now: this one, from behind its first filters, once the one that waited is
+    // walked, or still that one, where the filters stop the message.
+    fn offer_next(
+        &mut self,
+        pipes: &mut Vec<Pipe>,
+        waiting: Option<Branch>,
+        branch: Branch,
+        message: &Message,
+        flow: bool,
+    ) -> Result<Option<Branch>, AllocError>
+        requires table { IsPipeTable pipes.old.items }
+        requires frames { self.old.frames.items ≡ [] }
+        ensures delivers { IfOk result (λ now_waiting. (more : List ABranch)
+            → DeliversWith pipes.old.items message.now flow self.old
+            (behind waiting (branch ∷ more)) self.new (behind now_waiting more)) }
+        ensures stays { pipes.new.items ≡ pipes.old.items }
+    {
+        match enter(pipes, branch.start, message)? {
+            Some(start) => {
+                if let Some(ready) = waiting {
+                    self.offer_whole(pipes, ready, message.share()?, flow)?;
+                }
+                Ok(Some(Branch { start, ..branch }))
+            }
+            None => Ok(waiting),
+        }
+    }
+
+    // Walks each of the statements by itself. The last one that lets the message in has the message itself.
+    fn offer_each(
+        &mut self,
+        pipes: &mut Vec<Pipe>,
+        message: Message,
+        flow: bool,
+    ) -> Result<(), AllocError>
+        requires table { IsPipeTable pipes.old.items }
+        requires frames { self.old.frames.items ≡ [] }
+        ensures delivers { OnOk result
+            (DeliversWith pipes.old.items message flow self.old self.old.offered.items self.new []) }
+        ensures stays { pipes.new.items ≡ pipes.old.items }
+    {
+        let mut waiting = None;
+        let mut index = 0;
+        while let Some(branch) = branch_at(&self.offered, pipes, SiblingList::Offered, index) {
+            index += 1;
+            waiting = self.offer_next(pipes, waiting, branch, &message, flow)?;
+        }
+        match waiting {
+            Some(branch) => self.offer_whole(pipes, branch, message, flow),
+            None => Ok(()),
+        }
+    }
+
     /// Tries the statements that are offered the message.
     pub(crate) fn offer(
         &mut self,
@@ -261,7 +336,8 @@ impl WalkWork {
         message: Message,
         flow: bool,
     ) -> Result<(), AllocError>
-        requires { IsPipeTable pipes.old.items }
+        requires table { IsPipeTable pipes.old.items }
+        requires frames { self.old.frames.items ≡ [] }
         ensures delivers { OnOk result (DeliversOffers pipes.old.items
             (after_deliveries (now self.old).deliveries
             (branches (from pipes.old.items self.old.offered.items Offered 0) message flow))
@@ -270,7 +346,12 @@ impl WalkWork {
     {
         match alone(&self.offered) {
             Some(branch) => self.walk(pipes, branch.start, message, flow | branch.flow, true),
-            None => self.try_next(pipes, first_trial(SiblingList::Offered, message, flow)),
+            None => {
+                if has_final_or_fallback(&self.offered) {
+                    return self.try_next(pipes, first_trial(SiblingList::Offered, message, flow));
+                }
+                self.offer_each(pipes, message, flow)
+            }
         }
     }
 

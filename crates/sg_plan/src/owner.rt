@@ -7,7 +7,7 @@ use sg_parse_obj::Object;
 use sg_parse_path::RawRef;
 
 /// The statement in which a driver stands.
-#[derive(Debug, Drop)]
+#[derive(Drop)]
 pub enum Owner {
     /// A source or destination statement of that name.
     Named(Name),

@@ -3,7 +3,7 @@
 use sg_msg::Message;
 
 /// A message that waits for its destination.
-#[derive(Debug, Drop)]
+#[derive(Drop)]
 pub struct Entry {
     /// Its place among all entries that its destination was given, from 0.
     pub place: u64,

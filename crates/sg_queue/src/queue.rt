@@ -8,7 +8,7 @@ use std::collections::VecDeque;
 use std::marker::Model;
 
 /// The entries that wait for a destination, first in first out.
-#[derive(Debug, Drop)]
+#[derive(Drop)]
 pub struct Queue {
     entries: VecDeque<Entry>,
     unflowed: u64,

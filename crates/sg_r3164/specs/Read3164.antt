@@ -52,12 +52,12 @@ abbrev pub behind_host : Option ℕ → List ℕ → List ℕ
 behind_host None text = text
 behind_host (Some len) text = drop 1 (drop len text)
 
--- the pairs that a reading gives
+-- the pairs that a reading gives, in the order of their names
 abbrev pub parts : List ℕ → Option (List ℕ) → Option (List ℕ) → List ℕ → List NameValue
 parts host program pid text =
-    (record { name = codes "HOST"; value = host }) ∷ [] ++ some_pair (codes "PROGRAM") program
-    ++ some_pair (codes "PID") pid
-    ++ (record { name = codes "MESSAGE"; value = text }) ∷ []
+    (record { name = codes "HOST"; value = host })
+    ∷ (record { name = codes "MESSAGE"; value = text }) ∷ []
+    ++ some_pair (codes "PID") pid ++ some_pair (codes "PROGRAM") program
 
 -- the same, set on others
 abbrev pub with_parts : List ℕ → Option (List ℕ) → Option (List ℕ) → List ℕ → List NameValue

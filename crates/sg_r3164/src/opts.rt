@@ -6,7 +6,7 @@ use sg_time::Stamp;
 use std::alloc::AllocError;
 
 /// What a source says of its records.
-#[derive(Clone, Copy, Debug, PartialEq, Eq, Drop)]
+#[derive(Clone, Copy, PartialEq, Eq, Drop)]
 pub struct ReadOpts {
     /// The PRI of a record that has none, 0 to 191: the facility times 8, plus the severity.
     pub pri: u8,

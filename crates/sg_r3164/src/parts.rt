@@ -7,7 +7,7 @@ ghost use Rattle.sg_r3164.specs.Parts.{is_host_byte, is_program_byte, is_pid_byt
 use sg_msg::{has_at, is_print};
 
 /// What the tag of a record takes.
-#[derive(Clone, Copy, Debug, PartialEq, Eq, Drop)]
+#[derive(Clone, Copy, PartialEq, Eq, Drop)]
 pub(crate) struct Tag {
     /// The length of the program's name, which stands first.
     pub(crate) program: usize,

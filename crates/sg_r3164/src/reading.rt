@@ -15,6 +15,10 @@ use sg_msg::{Message, MessageBuilder, PairName, has_at, priority};
 use sg_time::{Stamp, read_bsd, read_iso};
 use std::alloc::{AllocError, Global};
 
+// HOST, MESSAGE, PID and PROGRAM.
+const PARTS: usize = 4;
+
+// Puts the pairs in the order of their names, in which they stay.
 fn put_parts(
     builder: &mut MessageBuilder,
     host: Bytes,
@@ -25,10 +29,11 @@ fn put_parts(
     requires { builder.old.put ≡ [] }
     ensures { OnOk result (builder.new ≡ record builder.old { put = parts host program pid text }) }
 {
+    builder.reserve(PARTS)?;
     builder.put(PairName::Host, host)?;
-    builder.put_some(PairName::Program, program)?;
-    builder.put_some(PairName::Pid, pid)?;
     builder.put(PairName::Message, text)?;
+    builder.put_some(PairName::Pid, pid)?;
+    builder.put_some(PairName::Program, program)?;
     Ok(())
 }
 
@@ -139,7 +144,7 @@ fn take_host(text: &mut Bytes, stamped: bool) -> Result<Option<Bytes>, AllocErro
 }
 
 /// What a tag names.
-#[derive(Debug, Drop)]
+#[derive(Drop)]
 struct Tagged {
     program: Option<Bytes>,
     pid: Option<Bytes>,

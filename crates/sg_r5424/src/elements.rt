@@ -3,7 +3,7 @@ ghost use Rattle.std.specs.Prelude.{◌≡◌, ◌≤◌, ◌++◌, ◌∷◌, [
 ghost use Rattle.sg_r5424.specs.Data.{IsElement, IsData, element_name};
 ghost use Rattle.sg_r5424.specs.Takes.{PutsPairs};
 
-use crate::names::NameRoom;
+use crate::names::SdNames;
 use crate::params::take_params;
 use crate::take::{first_is, take_name, take_text};
 use bytes::Bytes;
@@ -12,7 +12,7 @@ use std::alloc::{AllocError, Global};
 
 // Puts the pair of an element without parameters.
 fn put_element(
-    names: &mut NameRoom,
+    names: &mut SdNames,
     builder: &mut MessageBuilder,
     id: &[u8],
 ) -> Result<(), AllocError>
@@ -29,7 +29,7 @@ fn put_element(
 // Takes an element, and puts its pairs.
 fn take_element(
     alloc: Global,
-    names: &mut NameRoom,
+    names: &mut SdNames,
     builder: &mut MessageBuilder,
     text: &mut Bytes,
 ) -> Result<bool, AllocError>
@@ -51,6 +51,7 @@ fn take_element(
 // Takes structured data, and puts its pairs.
 pub(crate) fn take_data(
     alloc: Global,
+    names: &mut SdNames,
     builder: &mut MessageBuilder,
     text: &mut Bytes,
 ) -> Result<bool, AllocError>
@@ -62,12 +63,11 @@ pub(crate) fn take_data(
     if !first_is(text.as_slice(), b'[') {
         return Ok(false);
     }
-    let mut names = NameRoom::new(alloc)?;
     'elements: loop {
         if !first_is(text.as_slice(), b'[') {
             return Ok(true);
         }
-        if !take_element(alloc, &mut names, builder, text)? {
+        if !take_element(alloc, names, builder, text)? {
             return Ok(false);
         }
     }

@@ -1,27 +1,28 @@
 // The header of a record.
-ghost use Rattle.std.specs.Prelude.{◌≡◌, ◌≤◌, Some, IfSome, IfOk};
+ghost use Rattle.std.specs.Prelude.{◌≡◌, ◌≤◌, ◌++◌, ◌∷◌, [], codes, Some, IfSome, IfOk, OnOk};
 ghost use Rattle.std.specs.Option.{ForSome};
 ghost use Rattle.sg_time.specs.Stamp.{IsValidStamp};
 ghost use Rattle.sg_r5424.specs.Grammar.{IsStart, IsStamp, IsHeaderFront, IsNames, unless_nil};
 ghost use Rattle.sg_r5424.specs.Takes.{TakesValue, TryTakes};
+ghost use Rattle.sg_msg.specs.Build.{some_pair};
 ghost use Rattle.sg_r5424.specs.Is5424.{header_build};
 
 use crate::take::{take_field, take_text};
 use bytes::Bytes;
-use sg_msg::{MessageBuilder, PairName, priority};
+use sg_msg::{MessageBuilder, PairName, is_same, priority};
 use sg_r3164::ReadOpts;
 use sg_time::{Stamp, read_iso};
 use std::alloc::{AllocError, Global};
 
 /// PRI and TIMESTAMP, which is none where it is nil.
-#[derive(Clone, Copy, Debug, Drop)]
+#[derive(Clone, Copy, Drop)]
 pub(crate) struct HeaderFront {
     pub(crate) pri: u8,
     pub(crate) stamp: Option<Stamp>,
 }
 
 /// HOSTNAME, APP-NAME, PROCID and MSGID as they are written.
-#[derive(Debug, Drop)]
+#[derive(Drop)]
 pub(crate) struct HeaderNames {
     pub(crate) host: Bytes,
     pub(crate) program: Bytes,
@@ -111,16 +112,38 @@ pub(crate) fn take_names(text: &mut Bytes) -> Result<Option<HeaderNames>, AllocE
 fn unless_nil(field: Bytes) -> Option<Bytes>
     ensures { result ≡ unless_nil field }
 {
-    if field.as_slice() == b"-".as_slice() {
+    if is_same(field.as_slice(), b"-") {
         None
     } else {
         Some(field)
     }
 }
 
-// The builder of the message that the header says.
+// Gives a builder the host, and the names behind HOSTNAME, each where it isn't nil.
+fn put_names(
+    builder: &mut MessageBuilder,
+    host: Bytes,
+    program: Bytes,
+    pid: Bytes,
+    msgid: Bytes,
+) -> Result<(), AllocError>
+    ensures { OnOk result (builder.new ≡ record builder.old {
+      put = builder.old.put ++ (record { name = codes "HOST"; value = host }) ∷ []
+          ++ some_pair (codes "PROGRAM") (unless_nil program)
+          ++ some_pair (codes "PID") (unless_nil pid)
+          ++ some_pair (codes "MSGID") (unless_nil msgid);
+    }) }
+{
+    builder.put(PairName::Host, host)?;
+    builder.put_some(PairName::Program, unless_nil(program))?;
+    builder.put_some(PairName::Pid, unless_nil(pid))?;
+    builder.put_some(PairName::MessageId, unless_nil(msgid))
+}
+
+// The builder of the message that the header says, with room for so many pairs.
 pub(crate) fn start_message(
     alloc: Global,
+    room: usize,
     received: Stamp,
     peer: &Bytes,
     opts: &ReadOpts,
@@ -136,9 +159,7 @@ pub(crate) fn start_message(
     let sent = opts.sent(front.stamp, received);
     let host = opts.host(unless_nil(names.host), peer)?;
     let mut builder = MessageBuilder::new(alloc, front.pri, sent, received);
-    builder.put(PairName::Host, host)?;
-    builder.put_some(PairName::Program, unless_nil(names.program))?;
-    builder.put_some(PairName::Pid, unless_nil(names.pid))?;
-    builder.put_some(PairName::MessageId, unless_nil(names.msgid))?;
+    builder.reserve(room)?;
+    put_names(&mut builder, host, names.program, names.pid, names.msgid)?;
     Ok(builder)
 }

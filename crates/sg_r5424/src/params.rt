@@ -3,7 +3,7 @@ ghost use Rattle.std.specs.Prelude.{◌≡◌, ◌≤◌, ◌++◌, ◌∷◌, [
 ghost use Rattle.sg_r5424.specs.Data.{IsParam, HasParams, param_pair};
 ghost use Rattle.sg_r5424.specs.Takes.{TryTakes, PutsPairs};
 
-use crate::names::NameRoom;
+use crate::names::SdNames;
 use crate::take::{take_name, take_text};
 use crate::values::take_value;
 use bytes::Bytes;
@@ -11,7 +11,7 @@ use sg_msg::{MessageBuilder, PairName};
 use std::alloc::{AllocError, Global};
 
 /// A parameter's name and value.
-#[derive(Debug, Drop)]
+#[derive(Drop)]
 pub(crate) struct Param {
     name: Bytes,
     value: Bytes,
@@ -38,7 +38,7 @@ fn take_param(alloc: Global, text: &mut Bytes) -> Result<Option<Param>, AllocErr
 
 // Puts the pair of a parameter of this element.
 fn put_param(
-    names: &mut NameRoom,
+    names: &mut SdNames,
     builder: &mut MessageBuilder,
     id: &[u8],
     param: Param,
@@ -56,7 +56,7 @@ fn put_param(
 // Takes the parameters of this element, with the bracket that closes it, and puts their pairs.
 pub(crate) fn take_params(
     alloc: Global,
-    names: &mut NameRoom,
+    names: &mut SdNames,
     builder: &mut MessageBuilder,
     text: &mut Bytes,
     id: &[u8],

@@ -1,20 +1,24 @@
 // From a record to its message.
-ghost use Rattle.std.specs.Prelude.{◌≡◌, ◌≤◌, ◌≤ℤ◌, ◌++◌, [], ◌∷◌, pos, List, ℕ, codes, length, IfOk, MatchOption};
+ghost use Rattle.std.specs.Prelude.{◌≡◌, ◌≤◌, ◌≤ℤ◌, ◌++◌, [], ◌∷◌, pos, List, ℕ, codes, length, IfOk, OnOk, MatchOption};
 ghost use Rattle.std.specs.List.{suffix_len};
 ghost use Rattle.sg_time.specs.Stamp.{IsValidStamp};
 ghost use Rattle.sg_msg.specs.Build.{built};
+ghost use Rattle.sg_msg.specs.Message.{with_all};
 ghost use Rattle.sg_r5424.specs.Grammar.{IsMsgPart};
-ghost use Rattle.sg_r5424.specs.Is5424.{is_end_byte, without_end, message_pair, Behind, ReadsSyslogMsg, Answers5424, TryReads, refusal};
+ghost use Rattle.sg_r5424.specs.Is5424.{is_end_byte, without_end, message_pair, Behind, ReadsSyslogMsg, Answers5424, TryReads, refusal, refusal_pairs};
 
-use crate::R5424Refusal;
 use crate::elements::take_data;
 use crate::header::{start_message, take_front, take_names};
 use crate::take::take_text;
+use crate::{R5424Refusal, SdNames};
 use bytes::Bytes;
 use sg_msg::{Message, MessageBuilder, PairName};
 use sg_r3164::ReadOpts;
 use sg_time::Stamp;
 use std::alloc::{AllocError, Global};
+
+// HOST, PROGRAM, PID, MSGID and MESSAGE.
+const HEADER_PAIRS: usize = 5;
 
 fn is_end_byte(byte: u8) -> bool
     ensures { result ≡ is_end_byte byte }
@@ -71,12 +75,13 @@ fn finish(mut builder: MessageBuilder, said: Bytes) -> Result<Message, AllocErro
 // Reads what stands behind the header into the message that the header says.
 fn read_behind(
     alloc: Global,
+    pair_names: &mut SdNames,
     mut builder: MessageBuilder,
     text: &mut Bytes,
 ) -> Result<Option<Message>, AllocError>
     ensures { TryReads (Behind builder text.old) text.old text.new result }
 {
-    if !take_data(alloc, &mut builder, text)? {
+    if !take_data(alloc, pair_names, &mut builder, text)? {
         return Ok(None);
     }
     let rest = text.clone()?;
@@ -89,6 +94,7 @@ fn read_behind(
 
 fn read_record(
     alloc: Global,
+    pair_names: &mut SdNames,
     text: &mut Bytes,
     received: Stamp,
     peer: &Bytes,
@@ -104,13 +110,14 @@ fn read_record(
     let Some(names) = take_names(text)? else {
         return Ok(None);
     };
-    let builder = start_message(alloc, received, peer, opts, front, names)?;
-    read_behind(alloc, builder, text)
+    let room = HEADER_PAIRS + pair_names.restart();
+    let builder = start_message(alloc, room, received, peer, opts, front, names)?;
+    read_behind(alloc, pair_names, builder, text)
 }
 
 /// The message of a record of RFC 5424. `Syntax` where the record isn't of that form. LF and NUL bytes
 /// at its end belong to no field. Values that stand in the item share its memory; those of parameters
-/// that are written with backslashes are copied.
+/// that are written with backslashes are copied. Names share that of the records before.
 ///
 /// `at` is the moment of the pull, in microseconds since 1970-01-01T00:00:00Z, 0 to
 /// 250,000,000,000,000,000. HOST and MESSAGE are set, PROGRAM, PID and MSGID where they aren't nil,
@@ -118,6 +125,7 @@ fn read_record(
 /// parameters.
 pub fn read(
     alloc: Global,
+    pair_names: &mut SdNames,
     item: Bytes,
     at: i64,
     peer: &Bytes,
@@ -130,7 +138,7 @@ pub fn read(
     let mut text = item;
     drop_end(&mut text);
     let len = text.len();
-    match read_record(alloc, &mut text, received, peer, opts)? {
+    match read_record(alloc, pair_names, &mut text, received, peer, opts)? {
         Some(message) => Ok(message),
         None => Err(R5424Refusal::Syntax(len - text.len())),
     }
@@ -146,6 +154,42 @@ fn refusal_text(alloc: Global, item: &[u8]) -> Result<Bytes, AllocError>
     Ok(Bytes::from_vec(text)?)
 }
 
+// Gives a builder the pairs of a record that has no message.
+fn put_refusal(builder: &mut MessageBuilder, host: Bytes, text: Bytes) -> Result<(), AllocError>
+    ensures { OnOk result (builder.new ≡ record builder.old {
+      put = builder.old.put ++ (record { name = codes "HOST"; value = host }) ∷ []
+          ++ (record { name = codes "PROGRAM"; value = codes "syslog-ng" }) ∷ []
+          ++ message_pair text ∷ [];
+    }) }
+{
+    builder.put(PairName::Host, host)?;
+    builder.put(PairName::Program, Bytes::from_static(b"syslog-ng"))?;
+    builder.put(PairName::Message, text)
+}
+
+// What `refused` answers, at its moment.
+fn refused_at(
+    alloc: Global,
+    item: &[u8],
+    received: Stamp,
+    peer: &Bytes,
+) -> Result<Message, AllocError>
+    requires { IsValidStamp received }
+    ensures { IfOk result (λ message. message ≡ record {
+      pri = 43;
+      sent = received;
+      received = received;
+      pairs = with_all (refusal_pairs item.now peer.now) [];
+      tags = [];
+    }) }
+{
+    let host = peer.clone()?;
+    let text = refusal_text(alloc, item)?;
+    let mut builder = MessageBuilder::new(alloc, 43, received, received);
+    put_refusal(&mut builder, host, text)?;
+    builder.message()
+}
+
 /// What a record that has no message becomes: PRI 43, which is syslog's own facility and severity
 /// err, both stamps the received one, HOST the peer, PROGRAM `syslog-ng`, and MESSAGE
 /// `Error processing log message: ` with the item.
@@ -159,11 +203,5 @@ pub fn refused(
     requires { (pos 0 ≤ℤ at) × (at ≤ℤ pos 250_000_000_000_000_000) }
     ensures { IfOk result (λ message. message ≡ refusal item at peer.now opts.now) }
 {
-    let received = opts.received(at);
-    let text = refusal_text(alloc, item.as_slice())?;
-    let mut builder = MessageBuilder::new(alloc, 43, received, received);
-    builder.put(PairName::Host, peer.clone()?)?;
-    builder.put(PairName::Program, Bytes::from_static(b"syslog-ng"))?;
-    builder.put(PairName::Message, text)?;
-    builder.message()
+    refused_at(alloc, item.as_slice(), opts.received(at), peer)
 }

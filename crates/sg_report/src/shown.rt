@@ -3,7 +3,6 @@
 use sg_list::Seq;
 
 /// What a report shows beside the numbers that the core has come to.
-#[derive(Debug)]
 pub struct Shown {
     /// For each inlet the number of its source driver. They ascend, so that the inlets of one driver
     /// stand together.

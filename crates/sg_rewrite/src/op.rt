@@ -6,7 +6,6 @@ use sg_template::Template;
 
 /// A rewrite as a configuration writes it, without its condition (syslog-ng's administration guide,
 /// "Modifying messages using rewrite rules").
-#[derive(Debug)]
 pub enum Op {
     /// Gives the name the template's text.
     Set {

@@ -5,7 +5,7 @@ ghost use Rattle.sg_run.specs.Ends.{code_of, quiet_end, end_after, early_end};
 use sg_serve::{Device, Early, Ended, Fault};
 
 /// How a run of a configuration ended. A device goes by its number in the order of the configuration.
-#[derive(Clone, Copy, Debug, PartialEq, Eq, Drop)]
+#[derive(Clone, Copy, PartialEq, Eq, Drop)]
 pub enum End {
     /// Nothing failed, and nothing was left to do.
     Clean,

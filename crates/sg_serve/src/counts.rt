@@ -11,7 +11,7 @@ use sg_route::Router;
 use std::alloc::Global;
 
 /// What a run has come to, once its rounds have ended.
-#[derive(Debug, Drop)]
+#[derive(Drop)]
 pub struct Counts {
     pub tally: Tally,
     /// For each inlet the number of its parts that were given up for a bad count, 2^64 - 1 where there
@@ -26,7 +26,7 @@ pub struct Counts {
 }
 
 /// What failed in a run.
-#[derive(Clone, Copy, Debug, PartialEq, Eq, Drop)]
+#[derive(Clone, Copy, PartialEq, Eq, Drop)]
 pub enum Fault {
     /// A destination was given up, as its outlet failed.
     Sink(u32),

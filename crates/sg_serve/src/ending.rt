@@ -4,7 +4,7 @@ use crate::counts::Counts;
 use sg_turns::Ended;
 
 /// A device that couldn't be opened, by its number in the order of the configuration.
-#[derive(Clone, Copy, Debug, PartialEq, Eq, Drop)]
+#[derive(Clone, Copy, PartialEq, Eq, Drop)]
 pub enum Device {
     Store(u32),
     Inlet(u32),
@@ -12,7 +12,7 @@ pub enum Device {
 }
 
 /// Why the rounds didn't begin.
-#[derive(Clone, Copy, Debug, PartialEq, Eq, Drop)]
+#[derive(Clone, Copy, PartialEq, Eq, Drop)]
 pub enum Early {
     /// A device couldn't be opened.
     OpenFault(Device),
@@ -25,7 +25,7 @@ pub enum Early {
 }
 
 /// How a plan's run ends.
-#[derive(Debug, Drop)]
+#[derive(Drop)]
 pub enum PlanEnded {
     /// The rounds didn't begin.
     Before(Early),

@@ -10,7 +10,7 @@ use sg_world::World;
 use std::alloc::Global;
 
 // How many files of a destination are open at most.
-const HELD: u32 = 64;
+const HELD: u32 = 128;
 
 /// One file or one connection, or files whose paths come with their texts.
 pub enum Exit<D: Outlet, P: Opener> {

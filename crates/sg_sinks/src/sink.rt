@@ -13,7 +13,6 @@ use std::marker::Model;
 /// A destination: its setup, how many entries it has taken, the lengths of those that stand on its disk,
 /// in bytes of format 2, those that wait in memory, each with its block, whether the store of its
 /// disk-buffer has failed, and the numbers of dropped offers by cause.
-#[derive(Debug)]
 pub struct Sink {
     pub(crate) setup: DestSetup,
     pub(crate) taken: u64,

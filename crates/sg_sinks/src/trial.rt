@@ -10,7 +10,7 @@ use sg_msg::{Message, less_entry};
 
 /// What a disk-buffer has taken if its store works throughout: its capacity, the bytes that are taken,
 /// and whether an entry waits, so that it takes no other.
-#[derive(Clone, Copy, Debug, Drop)]
+#[derive(Clone, Copy, Drop)]
 pub struct Trial {
     pub capacity: u64,
     pub used: u64,

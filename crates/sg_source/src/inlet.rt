@@ -24,7 +24,7 @@ use sg_run_plan::InletPlan;
 use std::alloc::Global;
 
 /// Where the records of a source's driver come from.
-#[derive(Debug, Drop)]
+#[derive(Drop)]
 pub enum SourceOrigin {
     File { path: Name },
     /// Connections to this address, so many at a time.

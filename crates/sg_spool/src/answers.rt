@@ -7,7 +7,7 @@ use std::alloc::AllocError;
 use thiserror::Error;
 
 /// What an append answers.
-#[derive(Clone, Copy, Debug, PartialEq, Eq, Drop)]
+#[derive(Clone, Copy, PartialEq, Eq, Drop)]
 pub enum Appended {
     /// The entry is on the disk.
     Done,
@@ -18,7 +18,7 @@ pub enum Appended {
 }
 
 /// The first entry of a list.
-#[derive(Debug, Drop)]
+#[derive(Drop)]
 pub enum Front {
     /// Its payload.
     Item(Vec<u8>),
@@ -29,7 +29,7 @@ pub enum Front {
 }
 
 /// What stands at a gate.
-#[derive(Debug, Drop)]
+#[derive(Drop)]
 pub enum Walked {
     /// An entry, and the place of the next gate.
     Item { payload: Vec<u8>, next: u64 },

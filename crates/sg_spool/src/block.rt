@@ -9,7 +9,7 @@ use std::marker::Model;
 
 /// An entry's bytes, ready to be written: an open gate, the length of the payload, the payload, and a
 /// closed gate. Contracts see it as the payload.
-#[derive(Debug, Drop)]
+#[derive(Drop)]
 pub struct Block {
     bytes: Vec<u8>,
 }

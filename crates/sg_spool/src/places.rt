@@ -3,7 +3,7 @@ ghost use Rattle.std.specs.Prelude.{◌≡◌, ◌+◌, ◌≤◌, ◌<◌, ◌^
 ghost use Rattle.sg_spool.specs.Places.{IsOrdered, live, gate_past, skip};
 
 /// Where a ring's list begins and ends, in bytes from the beginning of the file.
-#[derive(Clone, Copy, Debug, PartialEq, Eq, Drop)]
+#[derive(Clone, Copy, PartialEq, Eq, Drop)]
 pub struct Places {
     /// The gate of the jump to 64, where there is one.
     pub jump: Option<u64>,

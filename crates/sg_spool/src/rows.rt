@@ -6,7 +6,7 @@ use crate::Places;
 
 /// The places of the list, and those of the list with all that is staged behind it, as if the gate at
 /// its end were open; and the numbers of entries. Where nothing is staged both places are the same.
-#[derive(Clone, Copy, Debug, Drop)]
+#[derive(Clone, Copy, Drop)]
 pub struct Rows {
     pub list: Places,
     pub ahead: Places,

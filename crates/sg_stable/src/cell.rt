@@ -13,7 +13,7 @@ use sg_device::{Disk, DiskFault, write_through};
 /// 39; each is a big-endian number.
 ///
 /// A change that fails closes the cell: the old number or the new one may stand on the disk.
-#[derive(Clone, Copy, Debug, PartialEq, Eq, Drop)]
+#[derive(Clone, Copy, PartialEq, Eq, Drop)]
 pub struct Pair {
     pub selector: u8,
     pub value: u64,

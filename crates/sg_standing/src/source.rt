@@ -11,7 +11,7 @@ use sg_queue::Entry;
 use sg_window::Tracker;
 
 /// A source: its setup, the place that it began at, and its window, which counts from place 0.
-#[derive(Debug, Drop)]
+#[derive(Drop)]
 pub struct Source {
     pub setup: SourceSetup,
     /// A byte offset in what the inlet gives.

@@ -23,6 +23,7 @@ pub failed-commits : (store : StoreState) → store.failed ≡ true → CommitsS
 failed-commits store failed = record {
   goes = goes_refl store;
   before = λ f. refl;
+  none = λ n. refl;
   commits = λ start tried app. record {
     position = app.position;
     worked = app.worked;
@@ -39,6 +40,7 @@ pub none-commits : (store : StoreState) → store.buffer ≡ None → CommitsSto
 none-commits store none = record {
   goes = goes_refl store;
   before = λ f. refl;
+  none = λ n. refl;
   commits = λ start tried app. record {
     position = app.position;
     worked = app.worked;
@@ -85,6 +87,7 @@ module _ {D : Type 0} (state : D → DiskState) (old new : View D) (lasts : Spoo
   done-commits done commits small = record {
     goes = goes_open state f old new lasts commits.1;
     before = λ failed. absurd (let no : false ≡ true = sym works ∙ failed in cc);
+    none = λ n. absurd (let no = n in cc);
     commits = λ start tried app. record {
       position = app.position;
       worked = app.worked;
@@ -110,6 +113,7 @@ module _ {D : Type 0} (state : D → DiskState) (old new : View D) (lasts : Spoo
   failed-commit e open_ commits = record {
     goes = goes_closed state f old new lasts open_ commits.1;
     before = λ failed. absurd (let no : false ≡ true = sym works ∙ failed in cc);
+    none = λ n. absurd (let no = n in cc);
     commits = λ start tried app. record {
       position = app.position;
       worked = app.worked;

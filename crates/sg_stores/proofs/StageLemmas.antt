@@ -66,6 +66,7 @@ pub failed-stages : (store : StoreState) (payload : List ℕ) → store.failed �
 failed-stages store payload failed = record {
   goes = goes_refl store;
   before = λ f. refl;
+  none = λ n. refl;
   stages = λ start tried kept next app. record {
     position = app.position;
     worked = app.worked;
@@ -87,6 +88,7 @@ none-stages store payload true is none = failed-stages store payload is
 none-stages store payload false is none = record {
   goes = goes_refl store;
   before = λ f. refl;
+  none = λ n. refl;
   stages = λ start tried kept next app. absurd (no-buffer start store tried payload kept none is next app);
 }
 
@@ -106,6 +108,7 @@ module _ {D : Type 0} (state : D → DiskState) (old new : View D) (payload : Li
   no-room-stages f works refuses = subst (λ (v : View D). StagesStore (buffer_state state f old) (buffer_state state f v) payload) (sym refuses.2) (record {
     goes = goes_refl (buffer_state state f old);
     before = λ g. refl;
+    none = λ n. refl;
     stages = λ start tried kept next app. absurd (refuses.1 (fits-behind f works start tried kept next app).0);
   })
 
@@ -132,6 +135,7 @@ module _ {D : Type 0} (state : D → DiskState) (old new : View D) (payload : Li
     failed-now f works open_ drops = record {
       goes = goes_closed state f old new lasts open_ drops.1;
       before = λ failed. absurd (let no : false ≡ true = sym works ∙ failed in cc);
+      none = λ n. absurd (let no = n in cc);
       stages = λ start tried kept next app. record {
         position = app.position;
         worked = app.worked;
@@ -195,6 +199,7 @@ module _ {D : Type 0} (state : D → DiskState) (old new : View D) (payload : Li
     done-stages f works done = record {
       goes = goes_open state f old new lasts done.2;
       before = λ failed. absurd (let no : false ≡ true = sym works ∙ failed in cc);
+      none = λ n. absurd (let no = n in cc);
       stages = λ start tried kept next app. record {
         position = app.position;
         worked = app.worked;

@@ -1,5 +1,5 @@
 -- What a call leaves that appends entries to a disk-buffer: it stages them one after another, and then commits them.
-use Rattle.std.specs.Prelude.{◌≡◌, ℕ, Bool, true, false, not, Some, List, [], ◌∷◌, ◌++◌, map, take, drop, slice_get}
+use Rattle.std.specs.Prelude.{◌≡◌, ℕ, Bool, true, false, not, Some, None, List, [], ◌∷◌, ◌++◌, map, take, drop, slice_get}
 use Rattle.sg_list.specs.Lists.{change}
 use Rattle.sg_device.specs.Disk.{Within}
 use Rattle.sg_device.specs.Faults.{Rose}
@@ -57,18 +57,20 @@ pub record IsNextPayload (start : StoreState) (tried : List BufferedEntry) (payl
   pub size : HasBufferSize capacity lengths start.buffer
   pub fits : has_space capacity (space (lengths ++ map length_of tried)) (length_of kept) ≡ true
 
--- a payload is staged; a store that has failed stays as it is
+-- a payload is staged; a store that has failed, or is no disk-buffer, stays as it is
 pub record StagesStore (old new : StoreState) (payload : List ℕ) : Type 0 where
   pub goes : StoreGoesOn old new
   pub before : old.failed ≡ true → new ≡ old
+  pub none : old.buffer ≡ None → new ≡ old
   pub stages : (start : StoreState) (tried : List BufferedEntry) (kept : BufferedEntry)
       → IsNextPayload start tried payload kept → IsAppending start old tried
       → IsAppending start new (tried ++ kept ∷ [])
 
--- what was staged is committed; a store that has failed stays as it is
+-- what was staged is committed; a store that has failed, or is no disk-buffer, stays as it is
 pub record CommitsStore (old new : StoreState) : Type 0 where
   pub goes : StoreGoesOn old new
   pub before : old.failed ≡ true → new ≡ old
+  pub none : old.buffer ≡ None → new ≡ old
   pub commits : (start : StoreState) (tried : List BufferedEntry) → IsAppending start old tried
       → IsAppended start new tried
 

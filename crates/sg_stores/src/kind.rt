@@ -1,7 +1,7 @@
 // Kinds of stores.
 
 /// What a store keeps.
-#[derive(Clone, Copy, Debug, PartialEq, Eq, Drop)]
+#[derive(Clone, Copy, PartialEq, Eq, Drop)]
 pub enum StoreKind {
     /// The position of an inlet.
     Position,

@@ -9,7 +9,7 @@ use crate::{Branch, Pipe, Test};
 
 /// What may become of one message at a place of the table and behind it. Each number is at most 1,025,
 /// which stands for all greater ones too.
-#[derive(Clone, Copy, Debug, PartialEq, Eq, Drop)]
+#[derive(Clone, Copy, PartialEq, Eq, Drop)]
 pub(crate) struct Fan {
     /// The offers made.
     pub(crate) offers: u32,

@@ -5,7 +5,7 @@ use sg_parsers::ParserRule;
 use sg_rewrite::Rewrite;
 
 /// A statement or channel: where its elements begin, and its flags.
-#[derive(Clone, Copy, Debug, PartialEq, Eq, Drop)]
+#[derive(Clone, Copy, PartialEq, Eq, Drop)]
 pub struct Branch {
     pub start: u32,
     pub is_final: bool,

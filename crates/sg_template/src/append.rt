@@ -1,5 +1,5 @@
 // Appending texts, and the texts of macros that aren't of a stamp.
-ghost use Rattle.std.specs.Prelude.{◌≡◌, ◌≤◌, ◌<◌, ◌++◌, OnOk, OnErr, decimal, unwrap_or, []};
+ghost use Rattle.std.specs.Prelude.{◌≡◌, ◌≤◌, ◌<◌, ◌++◌, ◌∷◌, OnOk, OnErr, decimal, unwrap_or, []};
 ghost use Rattle.sg_time.specs.Stamp.{IsValidStamp};
 ghost use Rattle.sg_msg.specs.Message.{IsMessage};
 ghost use Rattle.sg_template.specs.Begins.{BeginsWith};
@@ -16,11 +16,30 @@ use sg_msg::Message;
 use sg_time::Stamp;
 use std::alloc::AllocError;
 
-pub(crate) fn append(text: &[u8], out: &mut Vec<u8>) -> Result<(), AllocError>
+#[tactic(auto, using(crate::proofs::Appending::appending))]
+fn append_byte(byte: u8, out: &mut Vec<u8>) -> Result<(), AllocError>
+    ensures ok { OnOk result (out.new.items ≡ out.old.items ++ byte ∷ []) }
+    ensures err { OnErr result (BeginsWith out.old.items out.new.items) }
+{
+    out.push(byte)?;
+    Ok(())
+}
+
+fn append_bytes(text: &[u8], out: &mut Vec<u8>) -> Result<(), AllocError>
     ensures ok { OnOk result (out.new.items ≡ out.old.items ++ text.now) }
     ensures err { OnErr result (BeginsWith out.old.items out.new.items) }
 {
     out.extend_from_slice(text)
+}
+
+pub(crate) fn append(text: &[u8], out: &mut Vec<u8>) -> Result<(), AllocError>
+    ensures ok { OnOk result (out.new.items ≡ out.old.items ++ text.now) }
+    ensures err { OnErr result (BeginsWith out.old.items out.new.items) }
+{
+    match text {
+        [byte] => append_byte(*byte, out),
+        _ => append_bytes(text, out),
+    }
 }
 
 #[tactic(auto, using(crate::proofs::Appending::appending))]

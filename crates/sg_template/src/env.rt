@@ -8,7 +8,7 @@ use sg_device::Name;
 use sg_time::Stamp;
 
 /// How a template's macros are shown.
-#[derive(Debug, Drop)]
+#[derive(Drop)]
 pub struct Env {
     /// The offset of stamps in minutes east of UTC, -1439 to 1439; where there is none, each stamp
     /// has its own.

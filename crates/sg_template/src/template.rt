@@ -17,7 +17,7 @@ use std::alloc::{AllocError, Global};
 use std::marker::Model;
 
 /// A text with macros and fields of a message in it, seen as its parts.
-#[derive(Debug, Drop)]
+#[derive(Drop)]
 pub struct Template {
     parts: Seq<TemplatePart>,
 }

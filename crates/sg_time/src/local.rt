@@ -9,7 +9,7 @@ use crate::Stamp;
 use jiff_core::civil::Date;
 
 /// What a calendar and a clock show at a stamp's offset.
-#[derive(Clone, Copy, Debug, PartialEq, Eq, Drop)]
+#[derive(Clone, Copy, PartialEq, Eq, Drop)]
 pub struct LocalTime {
     /// 0 to 9999.
     pub year: u16,

@@ -5,7 +5,7 @@ use sg_outfmt::Shape;
 use sg_template::Env;
 
 /// How a file is read: as an inlet of that number would.
-#[derive(Clone, Copy, Debug, PartialEq, Eq, Drop)]
+#[derive(Clone, Copy, PartialEq, Eq, Drop)]
 pub struct FileReading {
     pub inlet: u32,
     pub kind: FrameKind,
@@ -14,7 +14,6 @@ pub struct FileReading {
 }
 
 /// What a destination sends.
-#[derive(Debug)]
 pub struct SentForm {
     pub shape: Shape,
     pub env: Env,

@@ -20,7 +20,7 @@ pub struct InletRule {
 }
 
 /// A destination.
-#[derive(Clone, Copy, Debug, PartialEq, Eq, Drop)]
+#[derive(Clone, Copy, PartialEq, Eq, Drop)]
 pub struct DestRule {}
 
 /// The log paths of a configuration. Inlets, destinations and filters are named by their places.

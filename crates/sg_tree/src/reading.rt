@@ -11,12 +11,13 @@ use bytes::Bytes;
 use sg_device::Name;
 use sg_msg::Message;
 use sg_r3164::ReadOpts;
-use sg_r5424::R5424Refusal;
+use sg_r5424::{R5424Refusal, SdNames};
 use std::alloc::{AllocError, Global};
 
 // The message of a record of RFC 5424, or what one that isn't so becomes.
 fn read_5424(
     alloc: Global,
+    names: &mut SdNames,
     item: Bytes,
     at: i64,
     peer: &Bytes,
@@ -25,7 +26,7 @@ fn read_5424(
     requires { (pos 0 ≤ℤ at) × (at ≤ℤ pos 250_000_000_000_000_000) }
     ensures { IfOk result (Reads5424 item at peer.now opts.now) }
 {
-    match sg_r5424::read(alloc, item.clone()?, at, peer, opts) {
+    match sg_r5424::read(alloc, names, item.clone()?, at, peer, opts) {
         Ok(message) => Ok(message),
         Err(R5424Refusal::Syntax(_)) => sg_r5424::refused(alloc, item, at, peer, opts),
         Err(R5424Refusal::NoMemory) => Err(AllocError),
@@ -35,6 +36,7 @@ fn read_5424(
 fn read_plain(
     alloc: Global,
     rule: &InletRule,
+    names: &mut SdNames,
     item: Bytes,
     at: i64,
     peer: &Bytes,
@@ -43,7 +45,7 @@ fn read_plain(
     ensures { IfOk result (ReadsByFormat rule.now.rfc5424 item at peer.now rule.now.opts) }
 {
     if rule.rfc5424 {
-        read_5424(alloc, item, at, peer, &rule.opts)
+        read_5424(alloc, names, item, at, peer, &rule.opts)
     } else {
         sg_r3164::read(alloc, item, at, peer, &rule.opts)
     }
@@ -78,13 +80,15 @@ pub fn is_skipped(rule: &InletRule, item: &[u8]) -> bool
 
 /// The message of a record of an inlet, with its MESSAGE in one line where the inlet has that flag, and
 /// with the inlet's tags. One that isn't of RFC 5424's form, where
-/// the inlet reads by that, becomes the message of `sg_r5424::refused`.
+/// the inlet reads by that, becomes the message of `sg_r5424::refused`. Names of pairs share the memory
+/// of those of the records before.
 ///
 /// `at` is the moment of the pull, in microseconds since 1970-01-01T00:00:00Z, 0 to
 /// 250,000,000,000,000,000.
 pub fn read_item(
     alloc: Global,
     rule: &InletRule,
+    names: &mut SdNames,
     item: Bytes,
     at: i64,
     peer: &Bytes,
@@ -94,7 +98,7 @@ pub fn read_item(
     ensures line { IfOk result
         (λ message. IsLine rule.now.one_line (value_of (codes "MESSAGE") message.pairs)) }
 {
-    let mut message = read_plain(alloc, rule, item, at, peer)?;
+    let mut message = read_plain(alloc, rule, names, item, at, peer)?;
     put_message(alloc, rule.one_line, &mut message)?;
     set_tags(&mut message, &rule.tags)?;
     Ok(message)

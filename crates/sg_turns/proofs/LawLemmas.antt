@@ -14,7 +14,7 @@ use Rattle.sg_counter.specs.declared.answers.CoreFront.TheVariants.{Entries, Emp
 use Rattle.sg_actor.specs.Bringing.{admitted_in}
 use Rattle.sg_actor.specs.Sources.{AreOf, HasRead}
 use Rattle.sg_actor.specs.Outages.{HasFailures}
-use Rattle.sg_actor.specs.Rendering.{frame_by, frames_by, until, sent_of}
+use Rattle.sg_actor.specs.Rendering.{frame_by, frames_by, most_bytes, most_entries, until, sent_of}
 use Rattle.sg_actor.specs.SourceTurns.{ActorState, bad_after, IsEmptyTurn, TellsSource}
 use Rattle.sg_actor.specs.DestTurns.{SettlesFirst, Refills, FollowsFront, DeliversFront, shown_in, IsShownEmpty, TellsDest as DestTells}
 use Rattle.sg_actor.specs.declared.rendering.DestSpec.{DestSpec}
@@ -101,7 +101,7 @@ settled-after d taken count well (Stored result) made h = none-settled made take
 settled-is : (d taken count : ℕ) (well : Bool) (made : List Exchange) → DeliversFront d taken count well made → settled_in made ≡ taken
 settled-is d taken count well [] h = sym h
 settled-is d taken count well (f ∷ made) h =
-    let none : settled_by f.call ≡ 0 = ap settled_by h.0 in
+    let none : settled_by f.call ≡ 0 = ap settled_by h.0.1 in
     let rest = settled-after d taken count well f.reply made h.1 in
     omega (arith, none, rest)
 
@@ -123,9 +123,9 @@ until-le left (f ∷ fs) = let rest = until-le (left - length f) fs in by-size (
 
 within-shown : (spec : DestSpec) (shown : List Content) (taken : ℕ) → taken ≤ length (sent_of spec shown) → taken ≤ length shown
 within-shown spec shown taken h =
-    let sent = until-le 262144 (frames_by spec (take 100 shown)) in
-    let same = length-map (take 100 shown) (frame_by spec) in
-    let few = length-take 100 shown in
+    let sent = until-le most_bytes (frames_by spec (take most_entries shown)) in
+    let same = length-map (take most_entries shown) (frame_by spec) in
+    let few = length-take most_entries shown in
     omega (arith, h, sent, same, few)
 
 map-nil : {A : Type 0} (o : Option (List A)) → option_map (λ before. before ++ []) o ≡ o

@@ -1,7 +1,7 @@
 // How a run of rounds ended.
 
 /// How a run of rounds ended.
-#[derive(Clone, Copy, Debug, PartialEq, Eq, Drop)]
+#[derive(Clone, Copy, PartialEq, Eq, Drop)]
 pub enum Ended {
     /// In the last round no turn did anything, and none was idle.
     Quiet,

@@ -10,7 +10,7 @@ use std::collections::VecDeque;
 use std::marker::Model;
 
 /// A record that was begun.
-#[derive(Clone, Copy, Debug, PartialEq, Eq, Drop)]
+#[derive(Clone, Copy, PartialEq, Eq, Drop)]
 pub struct BegunRecord {
     /// The place in its input behind it.
     pub end: u64,
@@ -20,7 +20,7 @@ pub struct BegunRecord {
 
 /// Records begun in order, and those of them that are outstanding: all behind the longest prefix of
 /// acknowledged ones. At most the window's number are outstanding at a time.
-#[derive(Debug, Drop)]
+#[derive(Drop)]
 pub struct Tracker {
     window: u32,
     begun: u64,

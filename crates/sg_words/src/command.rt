@@ -8,7 +8,7 @@ use crate::numbers::{MOST_RECORDS, MOST_ROUNDS, number_of};
 use sg_device::Name;
 
 /// What the program is asked to do.
-#[derive(Clone, Copy, Debug, Drop)]
+#[derive(Clone, Copy, Drop)]
 pub enum Command<'a> {
     /// `check FILE`
     Check(&'a [u8]),

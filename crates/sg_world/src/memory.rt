@@ -13,7 +13,7 @@ use sg_pattern::{BuildFault, Builder, Patterns};
 use std::alloc::Global;
 
 /// A machine in memory. It tells all that it holds.
-#[derive(Debug, Drop)]
+#[derive(Drop)]
 pub struct MemoryMachine {
     pub world: MemoryWorld,
 }

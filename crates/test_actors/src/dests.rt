@@ -31,7 +31,7 @@ three failures | a | 0 1 2 | 0 | | | gives-up | fr+ + + - - | | outlet
 three failures for ever | a | 0 1 2 | 0 | | | | fr+ + + ft1r+ f- | a | -
 a frame between failures | a b c | 0 2 3 | 1 | | | gives-up | ft1r+ ft1r+ + ft1r+ f- | a b c | -
 too early | a | 0 | 0 | 0 1 | | | fr+ ~ ~ ft1r+ f- | a | -
-too early to send | a b | | 0 | | 0 | | fr~ ft2r+ f- | a b | -
+too early to send | a b | | 0 | | 0 | | fr~ ft1r+ ft1r+ f- | a b | -
 too early for the second | a b | | 1 | | 0 1 | | ft1r+ fr~ ft1r+ f- | a b | -
 early and late failures | a b | 1 | 1 | | 0 2 | gives-up | ft1r+ fr+ fr~ ft1r+ f- | a b | -
 a failed store | a | | 0 | | | broken | f- - | | store";

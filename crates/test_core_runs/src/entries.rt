@@ -19,7 +19,7 @@ pub(crate) fn short(place: usize) -> u32 {
 
 /// An offer of a run. Its message has its number as the moment it was sent, and a text of bytes that are all its
 /// number.
-#[derive(Clone, Copy, Debug, PartialEq, Eq, Drop)]
+#[derive(Clone, Copy, PartialEq, Eq, Drop)]
 pub(crate) struct MadeOffer {
     pub(crate) source: u32,
     /// The end of its record.

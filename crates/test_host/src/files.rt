@@ -17,6 +17,7 @@ store socket = refused
 store name = refused
 store short = 3 0
 store truncated = 4 refused 2 refused faults 2 again 4
+store gathered = 128 135 abcdegh abCdegh
 source places = 0 4 0 0 8 0 11 0 0
 source moments = 0 1500000 250000000000000000
 source once = abc:de:.:.:

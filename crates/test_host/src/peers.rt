@@ -64,7 +64,7 @@ fn outlet<T: Threads + Copy>(
 }
 
 // What a send came to.
-#[derive(Clone, Copy, Debug, PartialEq, Eq, Drop)]
+#[derive(Clone, Copy, PartialEq, Eq, Drop)]
 enum Answer {
     Taken,
     Refused,

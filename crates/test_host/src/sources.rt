@@ -26,7 +26,7 @@ pub(crate) fn take<T: Threads>(threads: &T, folder: &Folder, what: &str) -> Resu
 }
 
 // A clock that stands still, or tells nothing.
-#[derive(Clone, Copy, Debug, Drop)]
+#[derive(Clone, Copy, Drop)]
 struct Still {
     since: Option<Duration>,
 }

@@ -20,6 +20,7 @@ pub(crate) fn take(folder: &Folder, what: &str) -> Result<String, Fail> {
         "name" => folder.word(opened(folder, b"/tmp/\xff")),
         "short" => short(folder),
         "truncated" => truncated(folder),
+        "gathered" => gathered(folder),
         _ => Err("no such step".into()),
     }
 }
@@ -188,6 +189,34 @@ fn truncated_between(folder: &Folder, disk: &mut FileDisk) -> Result<String, Fai
     let seen = look(folder, disk)?;
     let again = write_again(disk)?;
     Ok(format!(in folder.alloc; "{before} {seen} again {again}")?)
+}
+
+// Writes that go on where the last one ended, the last of which begins before that.
+fn write_three(disk: &mut FileDisk) -> Result<(), DiskFault> {
+    disk.write_at(128, b"abcd")?;
+    disk.write_at(132, b"ef")?;
+    disk.write_at(133, b"gh")
+}
+
+// What stands behind the first 128 bytes, once a byte among them was written over.
+fn write_inside(disk: &mut FileDisk, buffer: &mut [u8]) -> Result<usize, DiskFault> {
+    disk.write_at(130, b"C")?;
+    disk.read_at(128, buffer)
+}
+
+// Writes that follow each other are made at the next sync, or before the next read.
+fn gathered(folder: &Folder) -> Result<String, Fail> {
+    let mut disk = store(folder)?;
+    write_three(&mut disk)?;
+    let before = folder.bytes("q")?.len();
+    disk.sync()?;
+    let synced = folder.bytes("q")?;
+    let after = synced.len();
+    let first = str::from_utf8(&synced[after.min(128)..])?;
+    let mut buffer = [0u8; 8];
+    let count = write_inside(&mut disk, &mut buffer)?;
+    let second = str::from_utf8(&buffer[..count.min(8)])?;
+    Ok(format!(in folder.alloc; "{before} {after} {first} {second}")?)
 }
 
 /// What a step over a file that is read whole comes to.

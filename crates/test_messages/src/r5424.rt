@@ -4,7 +4,7 @@ ghost use Rattle.std.specs.Prelude.{◌≤ℤ◌, pos};
 use crate::source::{OPTS, PULLED, RECEIVED, has_head, has_pairs};
 use bytes::Bytes;
 use sg_msg::Message;
-use sg_r5424::{R5424Refusal, read, records_say_one_message, refused};
+use sg_r5424::{R5424Refusal, SdNames, read, records_say_one_message, refused};
 use sg_time::Stamp;
 use std::alloc::{AllocError, Global};
 use std::test::Fail;
@@ -72,15 +72,23 @@ const REFUSED: &str = "\
 <13>1 - - - - - [=]
 <13>1 - - - - - [iiiiiiiiiiiiiiiiiiiiiiiiiiiiiiiii]";
 
-fn read_row(alloc: Global, item: &[u8]) -> Result<Message, R5424Refusal> {
+// The message of an item, with the names that those before it had.
+fn read_after(alloc: Global, names: &mut SdNames, item: &[u8]) -> Result<Message, R5424Refusal> {
     let peer = Bytes::from_static(b"peer");
     read(
         alloc,
+        names,
         Bytes::copy_from_slice(alloc, item)?,
         PULLED,
         &peer,
         &OPTS,
     )
+}
+
+// The message of an item alone.
+fn read_row(alloc: Global, item: &[u8]) -> Result<Message, R5424Refusal> {
+    let mut names = SdNames::new(alloc);
+    read_after(alloc, &mut names, item)
 }
 
 // A row's parts.
@@ -130,12 +138,12 @@ fn says(message: &Message, row: &Rfc5424Row) -> bool {
     }
 }
 
-// Whether the item of a row is read as the message that it says.
-fn holds(alloc: Global, line: &str) -> bool {
+// Whether the item of a row is read as the message that it says, behind those before it.
+fn holds(alloc: Global, names: &mut SdNames, line: &str) -> bool {
     let Some(row) = row_of(line) else {
         return false;
     };
-    match read_row(alloc, row.item.as_bytes()) {
+    match read_after(alloc, names, row.item.as_bytes()) {
         Ok(message) => says(&message, &row),
         Err(_) => false,
     }
@@ -144,8 +152,12 @@ fn holds(alloc: Global, line: &str) -> bool {
 #[test]
 fn records_are_read(rt: HostRuntime) {
     records_say_one_message();
+    let mut names = SdNames::new(rt.alloc());
     for row in RECORDS.lines() {
-        assert!(rt; holds(rt.alloc(), row), "{row}");
+        let mut none = SdNames::new(rt.alloc());
+        assert!(rt; holds(rt.alloc(), &mut none, row), "alone {row}");
+        assert!(rt; holds(rt.alloc(), &mut names, row), "{row}");
+        assert!(rt; holds(rt.alloc(), &mut names, row), "again {row}");
     }
 }
 

@@ -14,6 +14,7 @@ use bytes::Bytes;
 use sg_filter::Expr;
 use sg_msg::{Message, Offer};
 use sg_pattern::Builder;
+use sg_r5424::SdNames;
 use sg_tree::{Forest, InletRule, Path, PathRefusal, is_skipped, read_item};
 use std::alloc::Global;
 
@@ -132,6 +133,7 @@ pub(crate) fn offers_plain<B: Builder>(
         return Ok(Vec::new(alloc));
     }
     let peer = Bytes::copy_from_slice(alloc, peer)?;
-    let message = read_item(alloc, rule, item, at, &peer)?;
+    let mut names = SdNames::new(alloc);
+    let message = read_item(alloc, rule, &mut names, item, at, &peer)?;
     offers_of(alloc, builder, forest, inlet, &message)
 }

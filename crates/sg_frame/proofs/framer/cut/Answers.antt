@@ -21,7 +21,7 @@ pub returns-clause-cut : goal.returns-clause-cut
 returns-clause-cut c =
     let place = c.args.place in
     let span = c.args.span in
-    let old = c.args.kept.now.items in
+    let old = c.args.kept.now in
     let runs = c.args.runs.now.items in
     let taken = c.requires.taken in
     let covers = c.requires.covers in
@@ -32,7 +32,7 @@ returns-clause-cut c =
     record {
       text = c.advance.ensures ∙ ap (drop span.from) (c.truncate.ensures ∙ ap (take span.to) c.in_ok-bytes.ensures.front ∙ take-take span.to span.taken old c.requires.to)
           ∙ slice-range old span.from span.to c.requires.from;
-      rest = c.in_ok-bytes.ensures.rest.0;
+      rest = c.in_ok-bytes.ensures.rest;
       moment = at ∙ moment-at place span.last runs c.moment_at.result c.moment_at.ensures.moment.0 c.moment_at.ensures.moment.1;
       kept = moments-move place span.taken runs c.moment_at.new.runs.items (c.moment_at.ensures.moments (place + span.taken) from);
       covers = c.moment_at.ensures.end (place + span.taken) from ∙ runs_end-move place span.taken runs inside;

@@ -1,9 +1,15 @@
-use Rattle.std.proofs.Common.{◌≡◌, ◌≤◌, ◌+◌, drop}
-use Rattle.sg_parsers.specs.Fields.{fields_from, field_count}
+use Rattle.std.proofs.Common.{◌≡◌, ◌≤◌, ◌+◌, length}
+use Rattle.sg_parsers.specs.declared.fields.FieldPosition.TheVariants.{Front}
+use Rattle.sg_parsers.specs.Fields.{fields_from, field_len, field_count}
 use Rattle.sg_parsers.proofs.fields.field_count.Given as goal
 
-abbrev pub invariant-loop-byte : goal.invariant-loop-byte
-invariant-loop-byte l = record {
-  rest : l.count + fields_from l.delimiters l.within (drop l.byte-index l.text) ≡ 1 + field_count l.delimiters l.text;
-  most : l.count ≤ l.byte-index + 1;
+abbrev pub invariant-fields : goal.invariant-fields
+invariant-fields l = record {
+  counted : l.count + fields_from l.delimiters Front l.rest ≡ 1 + field_count l.delimiters l.text;
+  first : l.len ≡ field_len l.delimiters l.rest;
+  within : l.len ≤ length l.rest;
+  most : l.count + length l.rest ≤ 1 + length l.text;
 }
+
+abbrev pub decreases-fields : goal.decreases-fields
+decreases-fields l = length l.rest

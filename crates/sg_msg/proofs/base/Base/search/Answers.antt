@@ -9,4 +9,4 @@ pub returns : goal.returns
 returns c =
     let facts = c.binary_search_by.ensures in
     let by_name = facts.position (λ (pair : NameValue). byte_order pair.name c.args.name.now) (always_returns_same _ _ _ (λ a r g called. (search rules, search rules))) in
-    rw (← c.self.view_is, ← c.deref.ensures) (searched _ c.args.name.now (rw (c.deref.ensures, c.self.view_is) c.requires) _ facts.bound by_name)
+    rw (← c.self.view_is, ← c.deref.ensures.value) (searched _ c.args.name.now (rw (c.deref.ensures.value, c.self.view_is) c.requires) _ facts.bound by_name)

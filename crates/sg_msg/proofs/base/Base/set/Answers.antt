@@ -1,20 +1,18 @@
-use Rattle.std.proofs.Common.{◌≡◌, ◌∙◌, ap, set, get_or, length}
-use Rattle.std.proofs.lemmas.List.{length-set}
-use Rattle.smallvec.proofs.SmallVecLemmas.{items-with_items}
+use Rattle.std.proofs.Common.{◌≡◌, refl}
 use Rattle.sg_msg.proofs.PairPlaces.{with-at, with-gap}
 use Rattle.sg_msg.proofs.base.Base.set.Goals as goal
 
 -- the pair of the name has the new value
 pub returns-in-Ok-clause-ok : goal.returns-in-Ok-clause-ok
 returns-in-Ok-clause-ok c =
-    let pairs = c.deref_mut.result.now in
-    let found = c.in-Ok.ensures.found.has_name c.index-deref_mut-place.result in
-    let value = c.deref_mut.ensures.value in
-    let named : (get_or pairs c.in-Ok.place c.index-deref_mut-place.result).name ≡ c.args.name.now = cc in
-    items-with_items c.self.inside.pairs (set pairs c.in-Ok.place c.put.new.self) (rw (length-set pairs c.in-Ok.place c.put.new.self) (ap length value))
-    ∙ rw (with-at c.args.name.now c.args.value c.args.self.now c.in-Ok.place c.requires c.in-Ok.ensures.found, c.put.ensures, named, ← c.self.view_is, c.deref_mut.ensures.value)
+    let found = c.in-Ok.ensures.found in
+    let here = found.has_name c.index_mut.result.now in
+    let value = c.index_mut.ensures.value in
+    let view = c.self.view_is in
+    let named : c.index_mut.result.now.name ≡ c.args.name.now = cc in
+    rw (with-at c.args.name.now c.args.value c.args.self.now c.in-Ok.place c.requires found, c.put.ensures, named, ← c.self.view_is) refl
 
 -- the pair stands in the gap
 pub returns-in_ok-insert-in-Err-clause-ok : goal.returns-in_ok-insert-in-Err-clause-ok
 returns-in_ok-insert-in-Err-clause-ok c =
-    rw (with-gap c.args.name.now c.args.value c.args.self.now c.in-Err.place c.in-Err.ensures.absent, c.in_ok-insert-in-Err.ensures.ok, c.self.view_is, c.new.ensures, c.in_ok-name-in-Err.ensures)
+    rw (with-gap c.args.name.now c.args.value c.args.self.now c.in-Err.place c.in-Err.ensures.absent, c.in_ok-insert-in-Err.ensures.items, c.self.view_is, c.new.ensures, c.in_ok-name-in-Err.ensures) refl

@@ -6,4 +6,4 @@ use Rattle.sg_msg.proofs.builder.MessageBuilder.put.Goals as goal
 pub invariant_of-self-2 : goal.invariant_of-self-2
 invariant_of-self-2 c =
     let all = names-end c.self.inside.pairs.items c.new.result c.self.invariant.3 (rw (c.new.ensures, c.bytes.ensures) (named c.args.name c.requires)) in
-    (c.self.invariant.0, c.self.invariant.1, c.self.invariant.2, rw c.in_ok-push.ensures.ok all, c.self.invariant.4)
+    (c.self.invariant.0, c.self.invariant.1, c.self.invariant.2, rw c.in_ok-push.ensures.items all, c.self.invariant.4)

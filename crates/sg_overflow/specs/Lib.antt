@@ -1,0 +1,14 @@
+pub mod Stops
+pub mod Payload
+pub mod Memory
+pub mod Listing
+pub mod Tallies
+pub mod View
+pub mod Line
+pub mod Held
+pub mod Staging
+pub mod Sending
+pub mod Keeping
+pub mod Opening
+pub mod Finishing
+pub mod Buffered
