@@ -18,9 +18,9 @@ use std::sync::Wait;
 // How many entries a turn asks for, where fewer than that were sent last.
 const FEW: usize = 100;
 
-/// How many entries a turn asks for: where those that were sent last were bytes enough for a send, some
-/// more than these, since others would be read in vain; else many more. One where it was too early for
-/// all of those, since it may be again.
+/// How many entries a turn asks for: where those that were sent last were bytes enough for a send,
+/// some more than these, since others would be read in vain; else many more. One where it was too
+/// early for all of those, since it may be again.
 fn entries(last: &Frames, waits: bool) -> u32
     ensures some { 0 < result }
     ensures most { result ≤ most_entries }
@@ -134,8 +134,8 @@ fn flush<O: Outlet>(outlet: &mut O) -> Turned
 }
 
 /// Takes the first entries of the destination to its outlet. It did something where there were any,
-/// unless it was too early for all of them: then it was idle, and waits. Where there are none, what the outlet
-/// still holds of those before is sent on.
+/// unless it was too early for all of them: then it was idle, and waits. Where there are none, what
+/// the outlet still holds of those before is sent on.
 pub(crate) fn deliver_front<T: Wait, O: Outlet, C: Settler<O>>(
     rt: &T,
     alloc: Global,
