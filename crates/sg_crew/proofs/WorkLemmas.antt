@@ -18,31 +18,17 @@ use Rattle.sg_actor.specs.declared.turned.Turned.{Turned}
 use Rattle.sg_turns.specs.Turns.{Turn, answer_of, SourceTurns, DestState, dest_state, SendsBy, DestTurns}
 use Rattle.sg_turns.proofs.TurnLemmas.{TurnIs, source-turn, dest-turn}
 use Rattle.sg_hub.specs.Seats.{HubState, SeatState, SeatStep}
-use Rattle.sg_crew.specs.declared.meter.Metered.{Metered}
-use Rattle.sg_crew.specs.declared.meter.MeteredDest.{MeteredDest}
+use Rattle.sg_hub.specs.declared.seat.HubSeat.{HubSeat}
+use Rattle.sg_hub.proofs.Seated.{same-seat}
 
 -- a destination's turn makes few calls
 dest-few : (cause : Option GivenUp) (spec : DestSpec) (x y : DestState) (turn : Turn) → SendsBy cause spec x y turn → length turn.made ≤ 4
 dest-few None spec x y turn (taken, (refused, k)) = k.few
 dest-few (Some cause) spec x y turn k = let e = ap length k.0 in omega (arith, e)
 
--- a call at a seat that is lent, of a destination and of a source
-abbrev pub AtSeat : (D : Type 0) → MeteredDest D → CoreCall → CoreReply → MeteredDest D → Type 0
+-- a call at a seat that is lent
+abbrev pub AtSeat : (D : Type 0) → HubSeat D → CoreCall → CoreReply → HubSeat D → Type 0
 AtSeat D old call reply new = (new.seat.ghost_name ≡ old.seat.ghost_name) × (new.passed.ghost_name ≡ old.passed.ghost_name) × (new.hub ≡ old.hub) × SeatStep old.hub.now old.seat.now call reply new.seat.now
-
-abbrev pub AtMetered : (D : Type 0) → Metered D → CoreCall → CoreReply → Metered D → Type 0
-AtMetered D old call reply new = (new.seat.ghost_name ≡ old.seat.ghost_name) × (new.passed.ghost_name ≡ old.passed.ghost_name) × (new.hub ≡ old.hub) × SeatStep old.hub.now old.seat.now call reply new.seat.now
-
--- calls at a seat that is lent leave what is lent, with it too, of that hub
-same-two : {S N P : Type 0} (name : S → N) (other : S → P) (hub : S → Bor HubState) (seat : S → SeatState) (old new : S) (made : List Exchange)
-    → Makes (λ (a : S) call reply (b : S). (name b ≡ name a) × (other b ≡ other a) × (hub b ≡ hub a) × SeatStep (hub a).now (seat a) call reply (seat b)) old made new
-    → ((name new ≡ name old) × (other new ≡ other old)) × ((hub new ≡ hub old) × Makes (SeatStep (hub old).now) (seat old) made (seat new))
-same-two name other hub seat old new [] m = ((ap name m, ap other m), (ap hub m, ap seat m))
-same-two {S} name other hub seat old new (x ∷ made) m =
-    let rest = same-two name other hub seat m.0 new made m.2 in (
-      (rest.0.0 ∙ m.1.0, rest.0.1 ∙ m.1.1),
-      (rest.1.0 ∙ m.1.2, (seat m.0, m.1.3, subst (λ (h : Bor HubState). Makes (SeatStep h.now) (seat m.0) made (seat new)) m.1.2 rest.1.1)),
-    )
 
 -- what is known of a turn at a seat that was lent: the seat comes back, and what counts at it, as `same` says, and the turn's calls are its own
 pub record IsLent (same : Type 0) (hub : HubState) (old new : SeatState) (who : Caller) (takes : Turn → Type 0) (answer : Option Turned) : Type 0 where
@@ -59,20 +45,20 @@ module _ {S N P E : Type 0} (name : S → N) (other : S → P) (hub : S → Bor 
       → TurnIs (λ (a : S) call reply (b : S). (name b ≡ name a) × (other b ≡ other a) × (hub b ≡ hub a) × SeatStep (hub a).now (seat a) call reply (seat b)) old new result who takes
       → IsLent ((name new ≡ name old) × (other new ≡ other old)) (hub old).now (seat old) (seat new) who takes (answer_of result)
   lent-is old new result who takes few t =
-      let s = same-two name other hub seat old new t.turn.made t.makes in
+      let s = same-seat name other hub seat old new t.turn.made t.makes in
       record { back = s.0; turn = t.turn; took = t.takes_it; makes = s.1.1; own = t.own; few = few t.turn t.takes_it; answered = t.answer }
 
-pub read-lent : {D E : Type 0} (offers : ℕ → Record → List Offer → Type 0) (dests : ℕ) (spec : SourceSpec) (a b : Metered D) (old new : ActorState) (result : Result Turned E)
-    → TakesTurn offers dests spec (AtMetered D) a b old new result
+pub read-lent : {D E : Type 0} (offers : ℕ → Record → List Offer → Type 0) (dests : ℕ) (spec : SourceSpec) (a b : HubSeat D) (old new : ActorState) (result : Result Turned E)
+    → TakesTurn offers dests spec (AtSeat D) a b old new result
     → IsLent ((b.seat.ghost_name ≡ a.seat.ghost_name) × (b.passed.ghost_name ≡ a.passed.ghost_name)) a.hub.now a.seat.now b.seat.now (OfSource spec.inlet) (SourceTurns offers dests spec old new) (answer_of result)
 read-lent {D} offers dests spec a b old new result h =
-    lent-is (λ (x : Metered D). x.seat.ghost_name) (λ (x : Metered D). x.passed.ghost_name) (λ (x : Metered D). x.hub) (λ (x : Metered D). x.seat.now) a b result (OfSource spec.inlet) (SourceTurns offers dests spec old new)
-    (λ turn t. t.takes.few) (source-turn offers dests spec (AtMetered D) a b old new result h)
+    lent-is (λ (x : HubSeat D). x.seat.ghost_name) (λ (x : HubSeat D). x.passed.ghost_name) (λ (x : HubSeat D). x.hub) (λ (x : HubSeat D). x.seat.now) a b result (OfSource spec.inlet) (SourceTurns offers dests spec old new)
+    (λ turn t. t.takes.few) (source-turn offers dests spec (AtSeat D) a b old new result h)
 
-pub send-lent : {D E : Type 0} (spec : DestSpec) (a b : MeteredDest D) (old new : Outage) (drain drain' : OutletState) (result : Result Turned E)
+pub send-lent : {D E : Type 0} (spec : DestSpec) (a b : HubSeat D) (old new : Outage) (drain drain' : OutletState) (result : Result Turned E)
     → SendsTurn spec (AtSeat D) a b old new drain drain' result
     → IsLent ((b.seat.ghost_name ≡ a.seat.ghost_name) × (b.passed.ghost_name ≡ a.passed.ghost_name)) a.hub.now a.seat.now b.seat.now (OfDest spec.dest) (DestTurns spec (dest_state old drain) (dest_state new drain')) (answer_of result)
 send-lent {D} spec a b old new drain drain' result h =
-    lent-is (λ (x : MeteredDest D). x.seat.ghost_name) (λ (x : MeteredDest D). x.passed.ghost_name) (λ (x : MeteredDest D). x.hub) (λ (x : MeteredDest D). x.seat.now) a b result (OfDest spec.dest)
+    lent-is (λ (x : HubSeat D). x.seat.ghost_name) (λ (x : HubSeat D). x.passed.ghost_name) (λ (x : HubSeat D). x.hub) (λ (x : HubSeat D). x.seat.now) a b result (OfDest spec.dest)
     (DestTurns spec (dest_state old drain) (dest_state new drain'))
     (λ turn t. dest-few old.given_up spec (dest_state old drain) (dest_state new drain') turn t) (dest-turn spec (AtSeat D) a b old new drain drain' result h)

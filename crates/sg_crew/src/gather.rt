@@ -39,7 +39,7 @@ pub(crate) fn spread_of<A, D: Disk>(workers: &[Worker<A, D>]) -> u64 {
     let mut all = 0u64;
     let mut most = 0u64;
     for worker in workers {
-        let records = worker.records as u64;
+        let records = worker.passed.brought as u64;
         all = all.saturating_add(records);
         most = most.max(records);
     }

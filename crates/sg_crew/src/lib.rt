@@ -6,8 +6,6 @@ mod gather;
 mod hold;
 mod look;
 mod meeting;
-mod meter;
-mod passed;
 mod phase;
 mod pool;
 mod rounds;
@@ -18,4 +16,5 @@ mod work;
 mod worker;
 
 pub use run::serve;
-pub use watch::{DestLook, Offered, SourceLook, Watch};
+pub use sg_hub::Offered;
+pub use watch::{DestLook, SourceLook, Watch};

@@ -17,7 +17,7 @@ pub(crate) struct Came {
 
 /// With one worker's last turn more.
 pub(crate) fn with_one<A, D: Disk>(came: Came, worker: &Worker<A, D>) -> Came {
-    let records = worker.records as u64;
+    let records = worker.passed.brought as u64;
     Came {
         busy: match worker.turn {
             Some(turned) if turned.did || turned.idle => came.busy.saturating_add(1),

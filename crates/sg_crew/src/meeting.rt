@@ -7,8 +7,8 @@ use std::sync::atomic::{AtomicU64, Ordering};
 use std::time::Duration;
 
 // How often a thread looks whether the others have come before it sleeps. A look with its pause takes 8 to 60 ns, by the
-// processor: so many take about as long as a turn of another thread, which is what it waits for as a rule.
-const LOOKS: u32 = 4_000;
+// processor: so many take about as long as to sleep and to be woken.
+const LOOKS: u32 = 400;
 
 // How often, and for how many milliseconds each time, a thread waits for the others before the first round.
 const WAITS: u32 = 10;

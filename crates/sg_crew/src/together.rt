@@ -34,6 +34,8 @@ pub(crate) struct RoundsTaken {
 struct Start {
     source: usize,
     dest: usize,
+    // It takes turns of destinations first.
+    sends: bool,
 }
 
 // The place that comes so many behind that one, in turn.
@@ -96,8 +98,9 @@ fn send_claimed<T: Wait, O: Outlet, D: Disk, K: WorkerInvariant<Worker<DestActor
     came
 }
 
-// The rounds of a thread: in each it takes turns that no other thread has claimed, the sources' first, and meets the other
-// threads. Where these don't all come, those that do take the turns of one round.
+// The rounds of a thread: in each it takes turns that no other thread has claimed, and meets the other threads. One of
+// them begins with the destinations, which send what came in the round before while the other threads read. Where the
+// threads don't all come, those that do take the turns of one round.
 fn take_rounds<
     T: Wait,
     R: Router,
@@ -121,8 +124,13 @@ fn take_rounds<
 {
     let together = meeting.register(rt);
     for round in 0..most {
-        let came = read_claimed(rt, alloc, hub, sources, round, start.source, nothing());
-        let came = send_claimed(rt, alloc, hub, dests, round, start.dest, came);
+        let came = if start.sends {
+            let came = send_claimed(rt, alloc, hub, dests, round, start.dest, nothing());
+            read_claimed(rt, alloc, hub, sources, round, start.source, came)
+        } else {
+            let came = read_claimed(rt, alloc, hub, sources, round, start.source, nothing());
+            send_claimed(rt, alloc, hub, dests, round, start.dest, came)
+        };
         if !together {
             return;
         }
@@ -175,6 +183,7 @@ fn starts_of(alloc: Global, threads: usize, sources: usize, dests: usize) -> Opt
         starts.push_reserved(Start {
             source: k.wrapping_mul(sources) / threads,
             dest: k.wrapping_mul(dests) / threads,
+            sends: k == 0,
         });
     }
     Some(starts)

@@ -4,6 +4,7 @@ ghost use Rattle.std.specs.Prelude.{◌≡◌};
 use crate::worker::Worker;
 use sg_actor::{DestActor, SourceActor};
 use sg_device::{Disk, Inlet, Outlet};
+use sg_hub::Offered;
 use sg_outside::Machine;
 use sg_route::Router;
 use std::alloc::{AllocError, Global};
@@ -19,14 +20,6 @@ pub struct SourceLook {
     pub full: bool,
     /// How often it wasn't.
     pub eased: u64,
-}
-
-/// What became of the offers to a destination so far.
-#[derive(Clone, Copy, PartialEq, Eq, Drop)]
-pub struct Offered {
-    pub kept: u64,
-    pub dropped_full: u64,
-    pub dropped_disk: u64,
 }
 
 /// What a destination has come to so far.
@@ -56,15 +49,6 @@ pub trait Watch<W: Machine> {
         ensures { W.state world.new ≡ W.state world.old };
 }
 
-/// Nothing was offered.
-pub(crate) fn nothing_offered() -> Offered {
-    Offered {
-        kept: 0,
-        dropped_full: 0,
-        dropped_disk: 0,
-    }
-}
-
 fn sum(one: Offered, other: Offered) -> Offered {
     Offered {
         kept: one.kept.saturating_add(other.kept),
@@ -75,7 +59,7 @@ fn sum(one: Offered, other: Offered) -> Offered {
 
 // What all sources' offers to this destination came to.
 fn offered_to<A, D: Disk>(sources: &[Worker<A, D>], dest: usize) -> Offered {
-    let mut all = nothing_offered();
+    let mut all = Offered::none();
     for source in sources {
         if let Some(offered) = source.passed.offered.get(dest) {
             all = sum(all, *offered);

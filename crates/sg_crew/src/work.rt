@@ -8,12 +8,11 @@ ghost use Rattle.sg_crew.specs.Workers.{MayRead, MaySend, ReadsOnce, SendsOnce};
 ghost use Rattle.sg_crew.specs.Pools.{MayGoOn, ReadsOnKept, SendsOnKept};
 
 use crate::look::{Came, with_one};
-use crate::meter::{Metered, MeteredDest};
 use crate::pool::{PlacedWorker, WorkerInvariant};
 use crate::worker::{TURNS, Worker};
 use sg_actor::{DestActor, SourceActor, Turned};
 use sg_device::{Disk, Inlet, NoMemory, Outlet};
-use sg_hub::Hub;
+use sg_hub::{Hub, HubSeat};
 use sg_route::Router;
 use std::alloc::Global;
 use std::sync::Wait;
@@ -61,19 +60,13 @@ fn read_one<T: Wait, R: Router, I: Inlet, D: Disk>(
         actor,
         seat,
         turn,
-        records,
         turns,
         busy,
         passed,
     } = worker;
-    let mut counter = Metered {
-        hub,
-        seat,
-        records: 0,
-        passed,
-    };
+    passed.brought = 0;
+    let mut counter = HubSeat { hub, seat, passed };
     let answered = answer(actor.turn(rt, alloc, &mut counter));
-    *records = counter.records;
     *turn = answered;
     *turns += 1;
     *busy = with_turn(*busy, answered);
@@ -93,12 +86,11 @@ fn send_one<T: Wait, O: Outlet, D: Disk>(
         actor,
         seat,
         turn,
-        records: _,
         turns,
         busy,
         passed,
     } = worker;
-    let mut counter = MeteredDest { hub, seat, passed };
+    let mut counter = HubSeat { hub, seat, passed };
     let answered = answer(actor.turn(rt, alloc, &mut counter));
     *turn = answered;
     *turns += 1;

@@ -3,24 +3,22 @@ ghost use Rattle.std.specs.Prelude.{◌≡◌, ◌≤◌, ◌<◌, [], length, v
 ghost use Rattle.sg_booth.specs.Desks.{IsDeskOf};
 ghost use Rattle.sg_crew.specs.Workers.{actors_of};
 
-use crate::passed::SeatCounts;
 use sg_actor::Turned;
 use sg_device::Disk;
-use sg_hub::{Hub, Seat};
+use sg_hub::{Hub, Seat, SeatCounts};
 use std::alloc::Global;
 use std::collections::VecDeque;
 
 /// How many turns a worker takes in a phase at most.
 pub(crate) const TURNS: u64 = 256;
 
-/// An actor, its seat, and what its last turn came to: None where it found no memory, or there was none;
-/// and how many records a source brought in then. How many turns of the phase it has taken, and how many of them
-/// did something or were idle; and what has passed the seat so far.
+/// An actor, its seat, and what its last turn came to: None where it found no memory, or there was none.
+/// How many turns of the phase it has taken, and how many of them did something or were idle; and what has passed
+/// the seat so far, with how many records a source brought in at its last turn.
 pub(crate) struct Worker<A, D: Disk> {
     pub(crate) actor: A,
     pub(crate) seat: Seat<D>,
     pub(crate) turn: Option<Turned>,
-    pub(crate) records: usize,
     pub(crate) turns: u64,
     pub(crate) busy: u64,
     pub(crate) passed: SeatCounts,
@@ -49,7 +47,6 @@ pub(crate) fn seat_all<A, D: Disk>(
             actor,
             seat,
             turn: None,
-            records: 0,
             turns: 0,
             busy: 0,
             passed: SeatCounts::new(alloc),
@@ -72,7 +69,6 @@ pub(crate) fn free_all<A, D: Disk>(workers: Vec<Worker<A, D>>, room: Vec<A>) -> 
             actor,
             seat: _,
             turn: _,
-            records: _,
             turns: _,
             busy: _,
             passed: _,

@@ -1,5 +1,5 @@
 -- Calls at a seat, one after another.
-use Rattle.std.proofs.Common.{◌≡◌, ◌+◌, ◌-◌, ◌++◌, List, [], ◌∷◌, refl, sym, ap, ◌∙◌, subst, arith}
+use Rattle.std.proofs.Common.{◌≡◌, ◌+◌, ◌-◌, ◌++◌, List, [], ◌∷◌, refl, sym, ap, ◌∙◌, subst, arith, Bor}
 use Rattle.std.proofs.lemmas.List.{append-nil, append_assoc, map-append}
 use Rattle.sg_booth.specs.Lists.{entries_at}
 use Rattle.sg_counter.specs.Exchanges.{Exchange, Makes}
@@ -42,14 +42,13 @@ pub goes-on : (hub : HubState) (old new : SeatState) (made : List Exchange) → 
 goes-on hub old new [] m = subst (SeatGoesOn hub old []) (sym m) (stays hub old)
 goes-on hub old new (x ∷ made) m = goes-one hub old m.0 new x.call x.reply made m.1 (goes-on hub m.0 new made m.2)
 
--- calls at a seat that is lent leave what is lent, of that hub
-pub same-seat : {S N H : Type 0} (name : S → N) (hub : S → H) (state : H → HubState) (seat : S → SeatState) (old new : S) (made : List Exchange)
-    → Makes (λ (a : S) call reply (b : S). (name b ≡ name a) × (hub b ≡ hub a) × SeatStep (state (hub a)) (seat a) call reply (seat b)) old made new
-    → (name new ≡ name old) × (hub new ≡ hub old) × Makes (SeatStep (state (hub old))) (seat old) made (seat new)
-same-seat name hub state seat old new [] m = (ap name m, ap hub m, ap seat m)
-same-seat {S} {N} {H} name hub state seat old new (x ∷ made) m =
-    let rest = same-seat name hub state seat m.0 new made m.2 in (
-      rest.0 ∙ m.1.0,
-      rest.1 ∙ m.1.1,
-      (seat m.0, m.1.2, subst (λ (h : H). Makes (SeatStep (state h)) (seat m.0) made (seat new)) m.1.1 rest.2),
+-- calls at a seat that is lent leave what is lent, with what counts at it, of that hub
+pub same-seat : {S N P : Type 0} (name : S → N) (passed : S → P) (hub : S → Bor HubState) (seat : S → SeatState) (old new : S) (made : List Exchange)
+    → Makes (λ (a : S) call reply (b : S). (name b ≡ name a) × (passed b ≡ passed a) × (hub b ≡ hub a) × SeatStep (hub a).now (seat a) call reply (seat b)) old made new
+    → ((name new ≡ name old) × (passed new ≡ passed old)) × ((hub new ≡ hub old) × Makes (SeatStep (hub old).now) (seat old) made (seat new))
+same-seat name passed hub seat old new [] m = ((ap name m, ap passed m), (ap hub m, ap seat m))
+same-seat {S} name passed hub seat old new (x ∷ made) m =
+    let rest = same-seat name passed hub seat m.0 new made m.2 in (
+      (rest.0.0 ∙ m.1.0, rest.0.1 ∙ m.1.1),
+      (rest.1.0 ∙ m.1.2, (seat m.0, m.1.3, subst (λ (h : Bor HubState). Makes (SeatStep h.now) (seat m.0) made (seat new)) m.1.2 rest.1.1)),
     )

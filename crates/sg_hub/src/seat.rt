@@ -10,6 +10,7 @@ ghost use Rattle.sg_hub.specs.Offices.{MayServe};
 ghost use Rattle.sg_hub.specs.Seats.{SeatStep};
 
 use crate::hub::{Hub, Seat};
+use crate::passed::SeatCounts;
 use sg_counter::{
     CoreCall, CoreFront, CoreReply, Counter, Refill, Refused, Settled, Settler, Stored,
 };
@@ -19,11 +20,12 @@ use sg_machine::{Admission, Verdict};
 use std::alloc::Global;
 use std::sync::Wait;
 
-/// A seat at its hub.
+/// A seat at its hub, which counts what passes it.
 #[derive(Drop)]
 pub struct HubSeat<'a, D: Disk> {
     pub hub: &'a Hub<D>,
     pub seat: &'a mut Seat<D>,
+    pub passed: &'a mut SeatCounts,
     pub ghost of_hub: { IsDeskOf hub.now seat.now },
 }
 
@@ -148,10 +150,13 @@ impl<'a, D: Disk> Counter for HubSeat<'a, D> {
     ghost left = { λ s. s.seat.now.left };
 
     ghost step = { λ old call reply new. (new.seat.ghost_name ≡ old.seat.ghost_name)
-        × (new.hub ≡ old.hub) × SeatStep old.hub.now old.seat.now call reply new.seat.now };
+        × (new.passed.ghost_name ≡ old.passed.ghost_name) × (new.hub ≡ old.hub)
+        × SeatStep old.hub.now old.seat.now call reply new.seat.now };
 
     fn credit<T: Wait>(&mut self, rt: &T, i: u32) -> u64 {
-        credit_at(self.hub, rt, self.seat, i)
+        let credit = credit_at(self.hub, rt, self.seat, i);
+        self.passed.ask(credit);
+        credit
     }
 
     fn admit<T: Wait>(
@@ -161,7 +166,12 @@ impl<'a, D: Disk> Counter for HubSeat<'a, D> {
         i: u32,
         records: Vec<Admission>,
     ) -> Result<Vec<Verdict>, Refused> {
-        admit_at(self.hub, rt, self.seat, i, records)
+        self.passed.begin(&records);
+        let admitted = admit_at(self.hub, rt, self.seat, i, records);
+        if let Ok(verdicts) = &admitted {
+            self.passed.end(verdicts);
+        }
+        admitted
     }
 
     fn front<T: Wait>(
@@ -171,7 +181,9 @@ impl<'a, D: Disk> Counter for HubSeat<'a, D> {
         d: u32,
         most: u32,
     ) -> Result<CoreFront, NoMemory> {
-        front_at(self.hub, rt, self.seat, d, most)
+        let front = front_at(self.hub, rt, self.seat, d, most);
+        self.passed.show(&front);
+        front
     }
 
     fn refill<T: Wait>(&mut self, rt: &T, d: u32) -> Refill {
@@ -179,7 +191,9 @@ impl<'a, D: Disk> Counter for HubSeat<'a, D> {
     }
 
     fn store<T: Wait>(&mut self, rt: &T, i: u32) -> Stored {
-        store_at(self.hub, rt, self.seat, i)
+        let stored = store_at(self.hub, rt, self.seat, i);
+        self.passed.store(stored);
+        stored
     }
 }
 
@@ -190,12 +204,15 @@ impl<'a, D: Disk, O: Outlet> Settler<O> for HubSeat<'a, D> {
         requires dest { d < length (setup_of self.old.hub.now.made).dests }
         requires some { 0 < n }
         ensures step { (self.new.seat.ghost_name ≡ self.old.seat.ghost_name)
+            × (self.new.passed.ghost_name ≡ self.old.passed.ghost_name)
             × (self.new.hub ≡ self.old.hub)
             × SeatStep self.old.hub.now self.old.seat.now
             (ACall.Settle d place n (count_of taken)) (AReply.Settled result) self.new.seat.now }
         ensures setup { setup_of self.new.hub.now.made ≡ setup_of self.old.hub.now.made }
         ensures left { self.old.seat.now.left ≤ self.new.seat.now.left + 1 }
     {
-        settle_at(self.hub, rt, self.seat, d, place, n, taken)
+        let settled = settle_at(self.hub, rt, self.seat, d, place, n, taken);
+        self.passed.settle(n, settled);
+        settled
     }
 }

@@ -9,6 +9,7 @@ pub mod ValueLaws
 pub mod ManyPairs
 mod ApartPairs
 mod SortedPairs
+mod SunkPairs
 mod OrderedPairs
 mod FirstBytes
 mod KnownNames

@@ -26,7 +26,7 @@ names-end (first ∷ pairs) pair all named = (all.0, names-end pairs pair all.1 
 differs-less : (x y : List ℕ) → byte_order x y ≡ Less → x ≢ y
 differs-less x y less e = let same = test-same x y e in let apart = test-less x y less in absurd (cc)
 
-same_or_not : (x y : List ℕ) → (x ≡ y) ⊎ (x ≢ y)
+pub same_or_not : (x y : List ℕ) → (x ≡ y) ⊎ (x ≢ y)
 same_or_not x y = by (byte_order x y) refl
   where
     by : (o : Ordering) → byte_order x y ≡ o → (x ≡ y) ⊎ (x ≢ y)
@@ -35,7 +35,7 @@ same_or_not x y = by (byte_order x y) refl
     by Greater is = inr (λ e. differs-less y x (less-back x y is) (sym e))
 
 -- the value of a name after a pair is set depends on what it was before
-value-one : (name : List ℕ) (pair : NameValue) (a b : List NameValue) → value_of name a ≡ value_of name b → value_of name (with_pair pair.name pair.value a) ≡ value_of name (with_pair pair.name pair.value b)
+pub value-one : (name : List ℕ) (pair : NameValue) (a b : List NameValue) → value_of name a ≡ value_of name b → value_of name (with_pair pair.name pair.value a) ≡ value_of name (with_pair pair.name pair.value b)
 value-one name pair a b e = by (same_or_not name pair.name)
   where
     by : (name ≡ pair.name) ⊎ (name ≢ pair.name) → value_of name (with_pair pair.name pair.value a) ≡ value_of name (with_pair pair.name pair.value b)

@@ -8,12 +8,16 @@ use crate::order::order;
 use crate::pair::NameValue;
 use bytes::Bytes;
 use std::alloc::{AllocError, Global};
+use std::cmp::Ordering;
 use std::collections::VecDeque;
 use std::marker::Model;
 use std::sync::Arc;
 
 // Among so many pairs a name is looked for one pair after another.
 const SCANNED: usize = 8;
+
+// Among so many pairs the place of a name is looked for one pair after another.
+const WALKED: usize = 24;
 
 /// The pairs in order.
 #[derive(Drop)]
@@ -52,6 +56,25 @@ fn value_among<'a>(pairs: &'a [NameValue], name: &[u8]) -> Option<&'a [u8]>
     None
 }
 
+// Where the name is, or where it would go, looked for from the last pair on: names are often set in
+// their order.
+fn place_among(pairs: &[NameValue], name: &[u8]) -> Result<usize, usize>
+    requires { IsAscending pairs.now }
+    ensures found { IfOk result (IsPairAt pairs.now name.now) }
+    ensures absent { IfErr result (IsGapFor pairs.now name.now) }
+{
+    let mut end = pairs.len();
+    'greater: while end > 0 {
+        let place = end - 1;
+        match order(pairs[place].name(), name) {
+            Ordering::Greater => end = place,
+            Ordering::Equal => return Ok(place),
+            Ordering::Less => return Err(end),
+        }
+    }
+    Err(0)
+}
+
 // The pairs, in a list with room for so many more.
 fn copied(alloc: Global, pairs: &[NameValue], more: usize) -> Result<Vec<NameValue>, AllocError>
     ensures { IfOk result (λ copies. copies.items ≡ pairs.now) }
@@ -78,6 +101,18 @@ impl Base {
         ensures found { IfOk result (IsPairAt self.now name.now) }
         ensures absent { IfErr result (IsGapFor self.now name.now) }
     {
+        if self.pairs.len() <= WALKED {
+            return place_among(self.pairs.as_slice(), name);
+        }
+        self.halve(name)
+    }
+
+    // As `search`, where there are many pairs.
+    fn halve(&self, name: &[u8]) -> Result<usize, usize>
+        requires { IsAscending self.now }
+        ensures found { IfOk result (IsPairAt self.now name.now) }
+        ensures absent { IfErr result (IsGapFor self.now name.now) }
+    {
         self.pairs.binary_search_by(|pair| order(pair.name(), name))
     }
 
@@ -88,7 +123,7 @@ impl Base {
         if self.pairs.len() <= SCANNED {
             return value_among(self.pairs.as_slice(), name);
         }
-        match self.search(name) {
+        match self.halve(name) {
             Ok(place) => Some(self.pairs[place].value()),
             Err(_) => None,
         }

@@ -3,13 +3,16 @@ ghost use Rattle.std.specs.Prelude.{◌≡◌, true, bytes_eq};
 
 // From so many bytes on they are compared many at a time; fewer one after another, since most that differ
 // do in their first byte.
-const LONG: usize = 16;
+const LONG: usize = 64;
 
 /// Whether both are the same bytes.
 pub fn is_same(a: &[u8], b: &[u8]) -> bool
     ensures value { result ≡ bytes_eq a.now b.now }
     ensures same { result ≡ true → a.now ≡ b.now }
 {
+    if a.len() != b.len() {
+        return false;
+    }
     if a.len() >= LONG {
         return a == b;
     }

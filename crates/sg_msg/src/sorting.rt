@@ -1,6 +1,7 @@
 // Pairs in the order of their names, the later of two of one name.
-ghost use Rattle.std.specs.Prelude.{◌≡◌, ◌++◌, ◌-◌, true, [], ◌∷◌, length, take, if◌then◌else◌, IfOk, OnOk, OnErr, slice_get};
-ghost use Rattle.sg_msg.specs.Message.{with_all, IsAscending};
+ghost use Rattle.std.specs.Prelude.{◌≡◌, ◌<◌, ◌++◌, ◌-◌, true, [], ◌∷◌, length, take, if◌then◌else◌, IfOk, OnOk, OnErr, slice_get};
+ghost use Rattle.std.specs.declared.cmp.Ordering.TheVariants.{Greater};
+ghost use Rattle.sg_msg.specs.Message.{byte_order, with_all, IsAscending};
 ghost use Rattle.sg_msg.specs.Sorting.{is_named, put_last, put_each, IsInOrder, KeepsEachName};
 
 use crate::base::Pairs;
@@ -11,7 +12,7 @@ use std::alloc::{AllocError, Global};
 use std::cmp::Ordering;
 use std::collections::VecDeque;
 
-// Of so many pairs each is put where its name belongs. More are sorted.
+// Of so many pairs each sinks to where its name belongs. More are sorted.
 const FEW: usize = 16;
 
 // Whether the pair that stands last has this name.
@@ -98,6 +99,52 @@ fn ascend(pairs: &[NameValue]) -> bool
     }
 }
 
+// Whether the name of the first is greater.
+fn is_over(first: &NameValue, second: &NameValue) -> bool
+    ensures { result ≡ true → byte_order first.now.name second.now.name ≡ Greater }
+{
+    match order(first.name(), second.name()) {
+        Ordering::Greater => true,
+        _ => false,
+    }
+}
+
+// The pair at this place sinks below those before it whose names are greater.
+fn sink(pairs: &mut Vec<NameValue>, at: usize)
+    requires { at < length pairs.old.items }
+    ensures same { with_all pairs.new.items [] ≡ with_all pairs.old.items [] }
+    ensures len { length pairs.new.items ≡ length pairs.old.items }
+{
+    if at == 0 {
+        return;
+    }
+    if is_over(&pairs[at - 1], &pairs[at]) {
+        pairs.swap(at - 1, at);
+        sink(pairs, at - 1);
+    }
+}
+
+// Each pair sinks, one after another.
+fn sink_each(pairs: &mut Vec<NameValue>)
+    ensures { with_all pairs.new.items [] ≡ with_all pairs.old.items [] }
+{
+    let count = pairs.len();
+    for at in 0..count {
+        sink(pairs, at);
+    }
+}
+
+// The pairs that setting these few one after another gives.
+fn few_in_order(alloc: Global, mut pairs: Vec<NameValue>) -> Result<Pairs, AllocError>
+    ensures { IfOk result (λ kept. kept ≡ with_all pairs.items []) }
+{
+    sink_each(&mut pairs);
+    if !ascend(pairs.as_slice()) {
+        return Pairs::of_each(alloc, pairs);
+    }
+    Pairs::of(alloc, pairs)
+}
+
 /// The pairs that setting these one after another gives.
 pub(crate) fn in_order(alloc: Global, pairs: Vec<NameValue>) -> Result<Pairs, AllocError>
     ensures { IfOk result (λ kept. kept ≡ with_all pairs.items []) }
@@ -106,7 +153,7 @@ pub(crate) fn in_order(alloc: Global, pairs: Vec<NameValue>) -> Result<Pairs, Al
         return Pairs::of(alloc, pairs);
     }
     if pairs.len() <= FEW {
-        return Pairs::of_each(alloc, pairs);
+        return few_in_order(alloc, pairs);
     }
     let pairs = sorted(alloc, pairs)?;
     Pairs::of(alloc, pairs)

@@ -1,16 +1,13 @@
 -- Fields: what they say, and what stands behind them.
-use Rattle.std.proofs.Common.{◌≡◌, ℕ, zero, suc, ◌+◌, ◌-◌, ◌≤◌, ◌<◌, Bool, true, false, nat_eq, nat_lt, cond, List, [], ◌∷◌, length, take, drop, Option, Some, None, refl, sym, ap, ◌∙◌, arith}
+use Rattle.std.proofs.Common.{◌≡◌, ℕ, zero, suc, ◌+◌, ◌-◌, ◌≤◌, ◌<◌, Bool, true, false, nat_eq, nat_lt, cond, ◌&&◌, get_or, List, [], ◌∷◌, length, take, drop, Option, Some, None, refl, sym, ap, ◌∙◌, arith, length-drop}
 use Rattle.std.specs.List.{prefix_len}
-use Rattle.std.proofs.lemmas.Bool.{true≢false, false≢true, lt-ltb}
+use Rattle.std.proofs.lemmas.Bool.{true≢false, false≢true, lt-ltb, le-ltb, eqb-true}
 use Rattle.std.proofs.lemmas.List.{drop-drop}
-use Rattle.sg_parsers.specs.declared.fields.Split.{Split}
-use Rattle.sg_parsers.specs.Csv.{behind_field, column_pairs}
+use Rattle.sg_parsers.specs.Csv.{behind_field, column_value, column_pairs}
+use Rattle.sg_msg.specs.Message.{NameValue}
 use Rattle.sg_msg.specs.Priority.{has_at}
 use Rattle.sg_parsers.specs.declared.fields.FieldPosition.TheVariants.{Plain, Quoted, Closing}
 use Rattle.sg_parsers.specs.Fields.{is_no_quote, field_len, value_from, field_value}
-
-abbrev pub Split-of : List ℕ → Option (List ℕ) → Split
-Split-of written rest = record { written = written; rest = rest }
 
 -- what stands outside of quotes says itself
 plain_value : (text : List ℕ) → value_from Plain text ≡ text
@@ -60,17 +57,50 @@ pub some_len : (n : ℕ) → nat_eq n 0 ≡ false → 1 ≤ n
 some_len zero e = absurd (true≢false e)
 some_len (suc n) e = omega arith
 
--- the first of several fields
-pub split-some : (delimiters text written rest : List ℕ) (len : ℕ) → len ≡ field_len delimiters text → len < length text → written ≡ take len text → rest ≡ drop 1 (drop len text)
-    → Split-of written (Some rest) ≡ Split-of (take (field_len delimiters text) text) (behind_field delimiters text)
-split-some delimiters text written rest len len-is less written-is rest-is =
-    let test : nat_lt (field_len delimiters text) (length text) ≡ true = lt-ltb (field_len delimiters text) (length text) (omega (arith, len-is, less)) in
-    let w : written ≡ take (field_len delimiters text) text = written-is ∙ ap (λ n. take n text) len-is in
-    let r : rest ≡ drop (field_len delimiters text + 1) text = rest-is ∙ drop-drop 1 len text ∙ ap (λ n. drop (n + 1) text) len-is in
-    let o : Some rest ≡ behind_field delimiters text = ap Some r ∙ sym (ap (λ (b : Bool). cond b (Some (drop (field_len delimiters text + 1) text)) None) test) in
-    λ i. Split-of (w i) (o i)
+-- the text behind a field that ends before the text does, and none where it doesn't
+module _ (delimiters text : List ℕ) (at end : ℕ) (end-is : end ≡ at + field_len delimiters (drop at text)) (low : at ≤ length text) where
+  pub behind-some : end < length text → behind_field delimiters (drop at text) ≡ Some (drop (end + 1) text)
+  behind-some less =
+      let rest = drop at text in
+      let test : nat_lt (field_len delimiters rest) (length rest) ≡ true = lt-ltb (field_len delimiters rest) (length rest) (omega (arith, end-is, length-drop at text, less, low)) in
+      let same : at + (field_len delimiters rest + 1) ≡ end + 1 = omega (arith, end-is) in
+      ap (λ (b : Bool). cond b (Some (drop (field_len delimiters rest + 1) rest)) None) test
+      ∙ ap Some (drop-drop (field_len delimiters rest + 1) at text ∙ ap (λ n. drop n text) same)
+
+  pub behind-none : end ≡ length text → behind_field delimiters (drop at text) ≡ None
+  behind-none over =
+      let rest = drop at text in
+      ap (λ (b : Bool). cond b (Some (drop (field_len delimiters rest + 1) rest)) None)
+      (le-ltb (field_len delimiters rest) (length rest) (omega (arith, end-is, length-drop at text, over, low)))
+
+  pub value-here : (value : List ℕ) → value ≡ field_value (take (end - at) (drop at text)) → value ≡ column_value delimiters false (drop at text)
+  value-here value value-is =
+      let len : end - at ≡ field_len delimiters (drop at text) = omega (arith, end-is) in
+      value-is ∙ ap (λ n. field_value (take n (drop at text))) len
 
 -- columns without a field
 pub columns-none : (delimiters : List ℕ) (greedy : Bool) (names : List (List ℕ)) → column_pairs delimiters greedy names None ≡ []
 columns-none delimiters greedy [] = refl
 columns-none delimiters greedy (name ∷ names) = refl
+
+last_is : (greedy : Bool) (n : ℕ) → (greedy ≡ true → n ≡ 0 → ⊥) → (greedy && nat_eq n 0) ≡ false
+last_is greedy n apart = by greedy (nat_eq n 0) refl refl
+  where
+    by : (g t : Bool) → greedy ≡ g → nat_eq n 0 ≡ t → (greedy && nat_eq n 0) ≡ false
+    by false t e f = rw e refl
+    by true false e f = rw (e, f) refl
+    by true true e f = absurd (apart e (eqb-true n 0 f))
+
+-- the column whose field ends the text, where it isn't the last one that gets the rest
+pub end-columns : (delimiters : List ℕ) (greedy : Bool) (names : List (List ℕ)) (place : ℕ) (name text : List ℕ) → place < length names → name ≡ get_or names place name
+    → (greedy ≡ true → place + 1 ≡ length names → ⊥) → behind_field delimiters text ≡ None
+    → column_pairs delimiters greedy (drop place names) (Some text) ≡ (record { name = name; value = column_value delimiters false text }) ∷ []
+end-columns delimiters greedy [] place name text lt is apart none = absurd (omega (arith, lt))
+end-columns delimiters greedy (first ∷ names) zero name text lt is apart none =
+    (λ i. pair (sym is i) (last_is greedy (length names) (λ g e. apart g (omega (arith, e))) i) ∷ column_pairs delimiters greedy names (none i))
+    ∙ ap (λ ps. pair name false ∷ ps) (columns-none delimiters greedy names)
+  where
+    pair : List ℕ → Bool → NameValue
+    pair called whole = record { name = called; value = column_value delimiters whole text }
+end-columns delimiters greedy (first ∷ names) (suc place) name text lt is apart none =
+    end-columns delimiters greedy names place name text (omega (arith, lt)) is (λ g e. apart g (omega (arith, e))) none

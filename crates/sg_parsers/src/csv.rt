@@ -1,11 +1,12 @@
 // Parsers of texts with columns.
-ghost use Rattle.std.specs.Prelude.{◌≡◌, ◌++◌, false, [], ◌∷◌, Some, None, if◌then◌else◌, IfOk, OnOk, OnErr};
+ghost use Rattle.std.specs.Prelude.{◌≡◌, ◌≤◌, ◌+◌, ◌++◌, false, [], ◌∷◌, Some, None, length, drop, if◌then◌else◌, IfOk, OnOk, OnErr};
 ghost use Rattle.std.specs.List.{list_all};
 ghost use Rattle.sg_parsers.specs.Names.{may_name, if_name};
-ghost use Rattle.sg_parsers.specs.Csv.{prefixed, if_names, behind_field, column_value, csv_pairs, csv_takes, csv_parsed, are_enough};
+ghost use Rattle.sg_parsers.specs.Fields.{field_len};
+ghost use Rattle.sg_parsers.specs.Csv.{prefixed, if_names, column_value, csv_pairs, csv_takes, csv_parsed, are_enough};
 
-use crate::columns::set_columns;
-use crate::fields::{field_count, field_value, split_field};
+use crate::columns::{set_columns, value_between};
+use crate::fields::{field_count, field_end};
 use crate::found::Found;
 use crate::key::{Key, joined, key_of};
 use crate::set::{FEW, set_all};
@@ -78,44 +79,55 @@ fn push_pair(name: &Key, value: Bytes, pairs: &mut Seq<Found>) -> Result<(), NoM
     Ok(())
 }
 
-// Gives the column the first field, and answers the text behind it.
+// Gives the column the field that begins at this place, and answers where it ends.
 fn push_field(
     alloc: Global,
     delimiters: &[u8],
     name: &Key,
-    text: Bytes,
+    text: &Bytes,
+    at: usize,
     pairs: &mut Seq<Found>,
-) -> Result<Option<Bytes>, NoMemory>
+) -> Result<usize, NoMemory>
+    requires { at ≤ length text.now }
     ensures pair { OnOk result (pairs.new ≡ pairs.old ++ (record {
       name = name.now;
-      value = column_value delimiters.now false text;
+      value = column_value delimiters.now false (drop at text.now);
     }) ∷ []) }
-    ensures rest { IfOk result (λ rest. rest ≡ behind_field delimiters.now text) }
+    ensures end { IfOk result (λ end. end ≡ at + field_len delimiters.now (drop at text.now)) }
+    ensures within { IfOk result (λ end. end ≤ length text.now) }
 {
-    let split = split_field(delimiters, text)?;
-    push_pair(name, field_value(alloc, split.written)?, pairs)?;
-    Ok(split.rest)
+    let end = field_end(delimiters, text.as_slice(), at);
+    push_pair(name, value_between(alloc, text, at, end)?, pairs)?;
+    Ok(end)
 }
 
 // Gives each column its field.
 fn push_columns(
     alloc: Global,
     csv: &Csv,
-    text: Bytes,
+    text: &Bytes,
     pairs: &mut Seq<Found>,
 ) -> Result<(), NoMemory>
-    ensures { OnOk result (pairs.new ≡ pairs.old ++ csv_pairs csv.now text) }
+    ensures { OnOk result (pairs.new ≡ pairs.old ++ csv_pairs csv.now text.now) }
 {
     let names = csv.names.as_slice();
-    let mut rest = Some(text);
+    let mut at = 0;
     for place in 0..names.len() {
-        let Some(text) = rest else {
-            return Ok(());
-        };
         if csv.greedy && place + 1 == names.len() {
-            return push_pair(&names[place], text, pairs);
+            return push_pair(&names[place], text.slice(at..text.len())?, pairs);
         }
-        rest = push_field(alloc, csv.delimiters.bytes(), &names[place], text, pairs)?;
+        let end = push_field(
+            alloc,
+            csv.delimiters.bytes(),
+            &names[place],
+            text,
+            at,
+            pairs,
+        )?;
+        if end == text.len() {
+            return Ok(());
+        }
+        at = end + 1;
     }
     Ok(())
 }
@@ -191,11 +203,11 @@ impl Csv {
             return Ok(false);
         }
         if self.names.len() <= FEW {
-            set_columns(alloc, self, text.clone()?, message)?;
+            set_columns(alloc, self, text, message)?;
             return Ok(true);
         }
         let mut pairs = Seq::empty(alloc);
-        push_columns(alloc, self, text.clone()?, &mut pairs)?;
+        push_columns(alloc, self, text, &mut pairs)?;
         set_all(alloc, pairs.as_slice(), message)?;
         Ok(true)
     }

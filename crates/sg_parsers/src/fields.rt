@@ -1,7 +1,6 @@
 // The fields of a text with delimiters.
-ghost use Rattle.std.specs.Prelude.{◌≡◌, ◌≤◌, ◌<◌, ◌++◌, true, take, length, IfOk, OnOk};
+ghost use Rattle.std.specs.Prelude.{◌≡◌, ◌≤◌, ◌<◌, ◌+◌, ◌++◌, true, drop, length, IfOk, OnOk};
 ghost use Rattle.sg_parsers.specs.Fields.{opens, through_quote, behind, added, field_len, field_value, field_count};
-ghost use Rattle.sg_parsers.specs.Csv.{behind_field};
 
 use crate::skips::{is_delimiter, plain_len, quote_place};
 use bytes::Bytes;
@@ -114,34 +113,13 @@ pub(crate) fn field_count(delimiters: &[u8], text: &[u8]) -> usize
     count
 }
 
-/// A field as it is written, and the text behind its delimiter.
-#[derive(Drop)]
-pub(crate) struct Split {
-    pub(crate) written: Bytes,
-    pub(crate) rest: Option<Bytes>,
-}
-
-/// The first field of the text.
-pub(crate) fn split_field(delimiters: &[u8], text: Bytes) -> Result<Split, NoMemory>
-    ensures { IfOk result (λ split. split ≡ record {
-      written = take (field_len delimiters.now text) text;
-      rest = behind_field delimiters.now text;
-    }) }
+/// Where the field ends that begins at this place of the text.
+pub(crate) fn field_end(delimiters: &[u8], text: &[u8], at: usize) -> usize
+    requires { at ≤ length text.now }
+    ensures value { result ≡ at + field_len delimiters.now (drop at text.now) }
+    ensures within { result ≤ length text.now }
 {
-    let len = field_len(delimiters, text.as_slice());
-    let mut rest = text;
-    let written = rest.split_to(len)?;
-    if rest.is_empty() {
-        return Ok(Split {
-            written,
-            rest: None,
-        });
-    }
-    rest.advance(1);
-    Ok(Split {
-        written,
-        rest: Some(rest),
-    })
+    at + field_len(delimiters, &text[at..])
 }
 
 // Adds what a byte adds to the value.

@@ -7,6 +7,9 @@ ghost use Rattle.sg_parsers.specs.Fields.{is_delimiter, is_no_quote, len_from};
 
 use memchr::{memchr, memchr2};
 
+// A delimiter is looked for among so many bytes one after another, since most fields are short.
+const NEAR: usize = 16;
+
 /// Whether the byte is one of the delimiters.
 pub(crate) fn is_delimiter(delimiters: &[u8], byte: u8) -> bool
     ensures { result ≡ is_delimiter delimiters.now byte }
@@ -18,12 +21,28 @@ fn before_one(byte: u8, text: &[u8]) -> usize
     ensures value { result ≡ position_or_len (is_byte byte) text.now }
     ensures within { result ≤ length text.now }
 {
+    let near = text.len().min(NEAR);
+    for place in 0..near {
+        if text[place] == byte {
+            return place;
+        }
+    }
+    near + before_far(byte, &text[near..])
+}
+
+// The same, many bytes at a time. It stands apart so that the search for a near one stays short.
+#[inline(never)]
+fn before_far(byte: u8, text: &[u8]) -> usize
+    ensures value { result ≡ position_or_len (is_byte byte) text.now }
+    ensures within { result ≤ length text.now }
+{
     match memchr(byte, text) {
         Some(place) => place,
         None => text.len(),
     }
 }
 
+#[inline(never)]
 fn before_either(one: u8, other: u8, text: &[u8]) -> usize
     ensures value { result ≡ position_or_len (is_byte2 one other) text.now }
     ensures within { result ≤ length text.now }
@@ -34,6 +53,7 @@ fn before_either(one: u8, other: u8, text: &[u8]) -> usize
     }
 }
 
+#[inline(never)]
 fn before_any(bytes: &[u8], text: &[u8]) -> usize
     ensures value { result ≡ position_or_len (is_delimiter bytes.now) text.now }
     ensures within { result ≤ length text.now }

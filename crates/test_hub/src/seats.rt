@@ -9,7 +9,7 @@ use crate::calls::{ask, put_reply, read_call};
 use crate::cores::open;
 use sg_core::Core;
 use sg_counter::{CoreCall, CoreReply};
-use sg_hub::{Hub, HubSeat, Seat};
+use sg_hub::{Hub, HubSeat, Seat, SeatCounts};
 use sg_machine::Tally;
 use sg_memory_disk::MemoryDisk;
 use std::alloc::{AllocError, Global};
@@ -36,7 +36,12 @@ pub(crate) fn ask_at<T: Wait>(
     requires may { MayAsk call }
     ensures step { SeatStep hub.entry.now seat.old call result seat.new }
 {
-    let mut counter = HubSeat { hub, seat };
+    let mut passed = SeatCounts::new(alloc);
+    let mut counter = HubSeat {
+        hub,
+        seat,
+        passed: &mut passed,
+    };
     ask(rt, alloc, &mut counter, call)
 }
 

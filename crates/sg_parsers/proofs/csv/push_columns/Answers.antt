@@ -1,14 +1,28 @@
-use Rattle.std.proofs.Common.{◌≡◌, List, ℕ, [], ◌++◌, drop, Option, sym, ap, ◌∙◌, append-nil}
-use Rattle.sg_msg.specs.Message.{NameValue}
-use Rattle.sg_parsers.specs.Csv.{column_pairs}
-use Rattle.sg_parsers.proofs.FieldLemmas.{columns-none}
+use Rattle.std.proofs.Common.{◌≡◌, ◌<◌, ◌+◌, List, ℕ, true, false, [], ◌∷◌, ◌++◌, length, drop, get_or, sym, ap, ◌∙◌, arith}
+use Rattle.sg_msg.specs.Message.{NameValue, with_pair, with_all}
+use Rattle.sg_parsers.specs.Fields.{field_len}
+use Rattle.sg_parsers.specs.Csv.{column_value}
+use Rattle.sg_parsers.proofs.FieldLemmas.{behind-none, end-columns}
+use Rattle.sg_parsers.proofs.csv.push_columns.Goals.{else-csv-via-then-csv+else-place-names, else-csv-via-else-csv}
 use Rattle.sg_parsers.proofs.csv.push_columns.Goals as goal
 
-pub returns-in_default : goal.returns-in_default
-returns-in_default c =
+pub returns-then-end-len : goal.returns-then-end-len
+returns-then-end-len c =
     let csv = c.args.csv.now in
-    let names = drop c.loop-place.place csv.names in
+    let text = c.args.text.now in
+    let at = c.loop-place.at in
+    let place = c.loop-place.place in
+    let name = c.index-names-place-in-loop-place.result in
+    let lt : place < length csv.names = omega (arith, c.loop-place-test.true, ap length c.as_slice-names.ensures) in
+    let name-is : name ≡ get_or csv.names place name = c.index-names-place-in-loop-place.is ∙ ap (λ (ns : List (List ℕ)). get_or ns place name) c.as_slice-names.ensures in
+    let end-is : c.in_ok-end.end ≡ at + field_len csv.delimiters (drop at text) = c.in_ok-end.ensures.end ∙ ap (λ (d : List ℕ). at + field_len d (drop at text)) c.bytes.ensures in
+    let over : c.in_ok-end.end ≡ length text = omega (arith, c.if-end-len.true, c.len-in-loop-place.ensures.value) in
+    let none = behind-none csv.delimiters text at c.in_ok-end.end end-is c.loop-place.invariant.within over in
+    let one = end-columns csv.delimiters csv.greedy csv.names place name (drop at text) lt name-is
+    (elim c.else-csv.branch [
+      | else-csv-via-then-csv+else-place-names w ↦ λ g e. absurd (omega (arith, w.if-place-names.false, e, ap length c.as_slice-names.ensures))
+      | else-csv-via-else-csv w ↦ λ g e. absurd (cc)
+    ]) none in
     let pairs = c.loop-place.pairs in
-    let nothing : column_pairs csv.delimiters csv.greedy names c.loop-place.rest ≡ [] =
-    ap (λ (r : Option (List ℕ)). column_pairs csv.delimiters csv.greedy names r) c.in_default.is ∙ columns-none csv.delimiters csv.greedy names in
-    sym (append-nil pairs) ∙ ap (λ (ps : List NameValue). pairs ++ ps) (sym nothing) ∙ c.loop-place.invariant
+    c.in_ok-end.ensures.pair ∙ ap (λ (d : List ℕ). pairs ++ (record { name = name; value = column_value d false (drop at text) }) ∷ []) c.bytes.ensures
+    ∙ sym (ap (λ (ps : List NameValue). pairs ++ ps) one) ∙ c.loop-place.invariant.got

@@ -2,7 +2,7 @@ use Rattle.std.proofs.Common.{rules}
 use Rattle.std.proofs.lemmas.Fn.{always_returns_same}
 use Rattle.sg_msg.specs.Message.{NameValue, byte_order}
 use Rattle.sg_msg.proofs.PairSearch.{searched}
-use Rattle.sg_msg.proofs.base.Base.search.Goals as goal
+use Rattle.sg_msg.proofs.base.Base.halve.Goals as goal
 
 -- the closure compares a pair's name, and the slice is the base's pairs
 pub returns : goal.returns

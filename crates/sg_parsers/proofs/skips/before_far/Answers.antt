@@ -1,5 +1,5 @@
 use Rattle.sg_parsers.proofs.RunLemmas.{found-place, found-none}
-use Rattle.sg_parsers.proofs.skips.before_one.Goals as goal
+use Rattle.sg_parsers.proofs.skips.before_far.Goals as goal
 
 pub returns-in-Some-clause-value : goal.returns-in-Some-clause-value
 returns-in-Some-clause-value c = found-place _ _ _ c.in-Some.ensures

@@ -1,29 +1,52 @@
 // What has passed a seat so far.
+ghost use Rattle.std.specs.Prelude.{◌≡◌};
 
-use crate::watch::{Offered, nothing_offered};
 use sg_counter::{CoreFront, Settled, Stored};
 use sg_device::NoMemory;
 use sg_machine::{Admission, Verdict};
 use sg_msg::Message;
 use std::alloc::Global;
 
+/// What became of the offers to a destination so far.
+#[derive(Clone, Copy, PartialEq, Eq, Drop)]
+pub struct Offered {
+    pub kept: u64,
+    pub dropped_full: u64,
+    pub dropped_disk: u64,
+}
+
+impl Offered {
+    /// Nothing was offered.
+    pub fn none() -> Offered
+        ensures { result ≡ record { kept = 0; dropped_full = 0; dropped_disk = 0 } }
+    {
+        Offered {
+            kept: 0,
+            dropped_full: 0,
+            dropped_disk: 0,
+        }
+    }
+}
+
 /// What came in through a source's seat, or was taken through a destination's.
 #[derive(Drop)]
-pub(crate) struct SeatCounts {
-    pub(crate) records: u64,
+pub struct SeatCounts {
+    pub records: u64,
+    /// How many were brought in last. Who lends the seat for a turn may set it to 0 before.
+    pub brought: usize,
     /// The window was full when the credit was asked for last.
-    pub(crate) full: bool,
+    pub full: bool,
     /// How often it wasn't.
-    pub(crate) eased: u64,
+    pub eased: u64,
     /// The position that was stored last.
-    pub(crate) stored: Option<u64>,
+    pub stored: Option<u64>,
     /// The destinations of the offers that came in last, in order.
     dests: Vec<u32>,
     /// What became of all offers, by destination.
-    pub(crate) offered: Vec<Offered>,
-    pub(crate) taken: u64,
+    pub offered: Vec<Offered>,
+    pub taken: u64,
     /// When the first of the entries that were shown last was received, or the last one, where all were taken.
-    pub(crate) oldest: Option<i64>,
+    pub oldest: Option<i64>,
     /// When the last of them was, and how many they were.
     newest: Option<i64>,
     shown: usize,
@@ -31,9 +54,12 @@ pub(crate) struct SeatCounts {
 
 impl SeatCounts {
     /// Nothing has. Takes no memory.
-    pub(crate) fn new(alloc: Global) -> SeatCounts {
+    pub fn new(alloc: Global) -> SeatCounts
+        ensures none { (result.records ≡ 0) × (result.taken ≡ 0) }
+    {
         SeatCounts {
             records: 0,
+            brought: 0,
             full: false,
             eased: 0,
             stored: None,
@@ -46,17 +72,18 @@ impl SeatCounts {
         }
     }
 
-    /// Notes the destinations of the records' offers, none where there is no memory.
+    /// Notes how many records there are, and the destinations of their offers, none where there is no memory.
     pub(crate) fn begin(&mut self, records: &[Admission]) {
+        self.brought = records.len();
         self.dests.clear();
         if list_dests(records, &mut self.dests).is_err() {
             self.dests.clear();
         }
     }
 
-    /// Counts so many records, and what became of their offers.
-    pub(crate) fn end(&mut self, records: usize, verdicts: &[Verdict]) {
-        self.records = self.records.saturating_add(records as u64);
+    /// Counts these records, and what became of their offers.
+    pub(crate) fn end(&mut self, verdicts: &[Verdict]) {
+        self.records = self.records.saturating_add(self.brought as u64);
         for at in 0..self.dests.len().min(verdicts.len()) {
             let dest = self.dests[at];
             count(dest as usize, verdicts[at], &mut self.offered);
@@ -143,7 +170,7 @@ fn counted(offered: Offered, verdict: Verdict) -> Offered {
 // Room for so many destinations, where there is memory.
 fn room_for(dest: usize, offered: &mut Vec<Offered>) -> Result<(), NoMemory> {
     for _more in offered.len()..dest.saturating_add(1).min(128) {
-        offered.push(nothing_offered())?;
+        offered.push(Offered::none())?;
     }
     Ok(())
 }

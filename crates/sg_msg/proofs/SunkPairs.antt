@@ -1,0 +1,64 @@
+-- Two pairs beside each other may change places, where their names differ.
+use Rattle.std.proofs.Common.{◌≡◌, ◌≢◌, ◌<◌, ◌-◌, ◌≤◌, ℕ, zero, suc, ◌⊎◌, inl, inr, List, [], ◌∷◌, length, get_or, slice_set, refl, sym, ap, subst, ◌∙◌, arith}
+use Rattle.std.specs.List.{swap}
+use Rattle.std.specs.declared.cmp.Ordering.TheVariants.{Greater}
+use Rattle.sg_msg.specs.Message.{NameValue, byte_order, value_of, with_pair, with_all, IsAscending}
+use Rattle.sg_msg.proofs.ByteOrder.{test-same, test-greater}
+use Rattle.sg_msg.proofs.KeptPairs.{ascending-with}
+use Rattle.sg_msg.proofs.ValueLaws.{value-with, value-with-other}
+use Rattle.sg_msg.proofs.ManyPairs.{same_or_not, value-one, extensional}
+
+differs-greater : (x y : List ℕ) → byte_order x y ≡ Greater → x ≢ y
+differs-greater x y greater e = let same = test-same x y e in let apart = test-greater x y greater in absurd (cc)
+
+-- it makes no difference which of the two is set first
+commute : (p q : NameValue) (base : List NameValue) → p.name ≢ q.name → IsAscending base
+    → with_pair p.name p.value (with_pair q.name q.value base) ≡ with_pair q.name q.value (with_pair p.name p.value base)
+commute p q base differs up =
+    extensional _ _ (ascending-with p.name p.value (with_pair q.name q.value base) (ascending-with q.name q.value base up))
+    (ascending-with q.name q.value (with_pair p.name p.value base) (ascending-with p.name p.value base up)) (λ name. by name (same_or_not name p.name))
+  where
+    by : (name : List ℕ) → (name ≡ p.name) ⊎ (name ≢ p.name)
+        → value_of name (with_pair p.name p.value (with_pair q.name q.value base)) ≡ value_of name (with_pair q.name q.value (with_pair p.name p.value base))
+    by name (inl is) =
+        subst (λ (n : List ℕ). value_of n (with_pair p.name p.value (with_pair q.name q.value base)) ≡ value_of n (with_pair q.name q.value (with_pair p.name p.value base))) (sym is)
+        (value-with p.name p.value (with_pair q.name q.value base)
+        ∙ sym (value-with-other q.name q.value p.name differs (with_pair p.name p.value base) ∙ value-with p.name p.value base))
+    by name (inr other) =
+        value-with-other p.name p.value name other (with_pair q.name q.value base)
+        ∙ sym (value-one name q (with_pair p.name p.value base) base (value-with-other p.name p.value name other base))
+
+swapped : (pairs : List NameValue) (k : ℕ) (d : NameValue) (base : List NameValue) → IsAscending base → suc k < length pairs
+    → byte_order (get_or pairs k d).name (get_or pairs (suc k) d).name ≡ Greater
+    → with_all (slice_set (slice_set pairs k (get_or pairs (suc k) d)) (suc k) (get_or pairs k d)) base ≡ with_all pairs base
+swapped [] k d base up lt over = absurd (omega (arith, lt))
+swapped (p ∷ []) k d base up lt over = absurd (omega (arith, lt))
+swapped (p ∷ q ∷ pairs) zero d base up lt over = ap (with_all pairs) (commute p q base (differs-greater p.name q.name over) up)
+swapped (p ∷ q ∷ pairs) (suc k) d base up lt over = swapped (q ∷ pairs) k d (with_pair p.name p.value base) (ascending-with p.name p.value base up) (omega (arith, lt)) over
+
+get-same : (pairs : List NameValue) (k : ℕ) (d e : NameValue) → k < length pairs → get_or pairs k d ≡ get_or pairs k e
+get-same [] k d e lt = absurd (omega (arith, lt))
+get-same (p ∷ pairs) zero d e lt = refl
+get-same (p ∷ pairs) (suc k) d e lt = get-same pairs k d e (omega (arith, lt))
+
+by-swap : (pairs : List NameValue) (k : ℕ) (d : NameValue) → suc k < length pairs → byte_order (get_or pairs k d).name (get_or pairs (suc k) d).name ≡ Greater
+    → with_all (swap pairs k (suc k)) [] ≡ with_all pairs []
+by-swap [] k d lt over = absurd (omega (arith, lt))
+by-swap (p ∷ pairs) k d lt over = swapped (p ∷ pairs) k p [] tt lt (by-default (p ∷ pairs) k d p lt over)
+  where
+    by-default : (pairs : List NameValue) (k : ℕ) (d e : NameValue) → suc k < length pairs → byte_order (get_or pairs k d).name (get_or pairs (suc k) d).name ≡ Greater
+        → byte_order (get_or pairs k e).name (get_or pairs (suc k) e).name ≡ Greater
+    by-default pairs k d e lt over =
+        subst (λ (p : NameValue). byte_order p.name (get_or pairs (suc k) e).name ≡ Greater) (get-same pairs k d e (omega (arith, lt)))
+        (subst (λ (q : NameValue). byte_order (get_or pairs k d).name q.name ≡ Greater) (get-same pairs (suc k) d e lt) over)
+
+-- the same as the program reads them
+pub sunk : (pairs new : List NameValue) (at : ℕ) (first second : NameValue) → 1 ≤ at → at < length pairs → first ≡ get_or pairs (at - 1) first → second ≡ get_or pairs at second
+    → byte_order first.name second.name ≡ Greater → new ≡ swap pairs (at - 1) at → with_all new [] ≡ with_all pairs []
+sunk pairs new at first second some lt first-is second-is over new-is =
+    let one : suc (at - 1) ≡ at = omega (arith, some) in
+    let here : get_or pairs at second ≡ get_or pairs (suc (at - 1)) first = get-same pairs at second first lt ∙ ap (λ n. get_or pairs n first) (sym one) in
+    ap (λ (ps : List NameValue). with_all ps []) (new-is ∙ ap (λ n. swap pairs (at - 1) n) (sym one))
+    ∙ by-swap pairs (at - 1) first (omega (arith, some, lt))
+    (subst (λ (q : NameValue). byte_order (get_or pairs (at - 1) first).name q.name ≡ Greater) (second-is ∙ here)
+    (subst (λ (p : NameValue). byte_order p.name second.name ≡ Greater) first-is over))
