@@ -47,9 +47,10 @@ TCP = 'source s { network(ip("127.0.0.1") port({port}) transport("tcp") max-conn
 COUNTED = 'source s { syslog(ip("127.0.0.1") port({port}) transport("tcp") max-connections(1) %s); };\n' % PULLS
 PEER = (
     'destination d { network("127.0.0.1" port({port}) transport("tcp") template("$MSG\\n")'
-    ' disk-buffer(reliable(yes) disk-buf-size(536870912) dir("."))); };\n'
+    ' disk-buffer(%s disk-buf-size(536870912) dir("."))); };\n'
     "log { source(s); destination(d); flags(flow-control); };\n"
 )
+BUFFER, OVERFLOW = PEER % "reliable(yes)", PEER % "reliable(no) mem-buf-length(10000)"
 THREE = "".join(
     [
         "filter f_auth { facility(auth, authpriv); };\n",
@@ -156,8 +157,10 @@ JOBS = [
     Job("apart, tcp 1", 1, local, TCP % (1, PULLS) + APART, of_local, connections=1),
     Job("apart, tcp 8", 1, local, TCP % (8, PULLS) + APART, of_local, connections=8),
     Job("counted 5424", 1, counted, COUNTED + COPY % "<$PRI>1 $ISODATE $HOST $PROGRAM $PID $MSGID ${.SDATA.exampleSDID@32473.eventID} $MSG", connections=1),
-    Job("buffer, peer up", 1, plain, PLAIN + PEER, peer="up"),
-    Job("buffer, peer away", 1, plain, PLAIN + PEER, peer="away"),
+    Job("buffer, peer up", 1, plain, PLAIN + BUFFER, peer="up"),
+    Job("buffer, peer away", 1, plain, PLAIN + BUFFER, peer="away"),
+    Job("overflow, peer up", 1, plain, PLAIN + OVERFLOW, peer="up"),
+    Job("overflow, peer away", 1, plain, PLAIN + OVERFLOW, peer="away"),
 ]
 
 
@@ -345,7 +348,7 @@ class Run:
         if child.returncode != (6 if self.job.peer == "away" else 0):
             self.fail("syslogr ended with %d" % child.returncode)
         if self.job.peer == "away":
-            store = next(name for name in os.listdir(self.folder) if name.startswith("queue-"))
+            store = next(name for name in os.listdir(self.folder) if name.startswith(("queue-", "over-")))
             said = subprocess.run([program, "spool", store], cwd=self.folder, stdout=subprocess.PIPE, stderr=subprocess.DEVNULL).stdout
             if not said.endswith(b"entries %d\n" % self.count):
                 self.fail("syslogr's disk-buffer hasn't all")
@@ -476,7 +479,7 @@ def tell(job, mine, unsynced, theirs, compared):
     ratios = ["%.2f" % (figures[0] / theirs[0]) if figures and theirs else "-" for figures in (mine, unsynced)]
     used = "%.2f" % (mine[1] / theirs[1]) if mine and theirs else "-"
     aim = "%d %s" % (job.wanted, " " if reached else "!")
-    print("%-17s | %s | %s | %7s %8s %7s %5s | %s" % (job.name, shown(mine), shown(theirs), *ratios, used, aim, compared), flush=True)
+    print("%-19s | %s | %s | %7s %8s %7s %5s | %s" % (job.name, shown(mine), shown(theirs), *ratios, used, aim, compared), flush=True)
     return reached
 
 
@@ -498,8 +501,8 @@ def main():
         preload = without_syncs(temporary)
         head = "%9s %7s %5s %5s %5s" % ("records/s", "µs each", "MiB", "start", "of it")
         print("%d MiB of records of %d bytes; starts in milliseconds, and what the processor had of them" % (options.mib, options.length))
-        print("%-17s | %-35s | %-35s | %-30s |" % ("", "syslogr", "syslog-ng", "syslogr / syslog-ng"))
-        print("%-17s | %s | %s | %7s %8s %7s %5s | %s" % ("job", head, head, "rate", "unsynced", "µs each", "aim  ", "outputs"))
+        print("%-19s | %-35s | %-35s | %-30s |" % ("", "syslogr", "syslog-ng", "syslogr / syslog-ng"))
+        print("%-19s | %s | %s | %7s %8s %7s %5s | %s" % ("job", head, head, "rate", "unsynced", "µs each", "aim  ", "outputs"))
         for job in chosen:
             figures, compared = measured(job, options, preload, os.path.abspath(options.keep or temporary))
             good &= tell(job, *figures, compared)

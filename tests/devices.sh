@@ -120,6 +120,52 @@ for fsync in '' fsync; do
     expect "whole lines under a limit $fsync" 'same\n'
 done
 
+# Lines in turns for files by their paths, by one write a file: a send takes the lines in front of the first that is refused. What
+# other files got behind that one is cut off again.
+lines() { seq -f 'line %05g' 1 "$1"; }
+# held FILE..: the numbers of the lines of each
+held() { for file; do echo "$file$(sed 's/^line 0*/ /' "$file" | tr -d '\n')"; done >>got; }
+full='cannot write: No space left on device (os error 28)'
+for fsync in '' fsync; do
+    rm -f a b c
+    lines 9 >in
+    run turns a,b,c $fsync <in
+    held a b c
+    expect "files in turns $fsync" 'taken 9\nstatus 0\na 1 4 7\nb 2 5 8\nc 3 6 9\n'
+    rm -f a b c
+    lines 6 >in
+    run turns a,/dev/full,c <in
+    held a c
+    expect 'a full disk under the second of three files' "taken 1\ndestination /dev/full: $full\nstatus 0\na 1\nc\n"
+    rm -f a b c
+    run turns a,b,/dev/full <in
+    held a b
+    expect 'a full disk under the last of three files' "taken 2\ndestination /dev/full: $full\nstatus 0\na 1\nb 2\n"
+    # the second file takes two lines and a part of the third one
+    rm -f a b c
+    head -c $(($(stat -c %s sized) - 25)) /dev/zero >b
+    lines 12 >in
+    (ulimit -f 1 && run turns a,b,c $fsync <in)
+    tail -c 22 b >end
+    held a c end
+    expect "a limit on the size of the second of three files $fsync" 'taken 7\ndestination b: cannot write: File too large (os error 27)\nstatus 0\na 1 4 7\nc 3 6\nend 2 5\n'
+    # and a later one is refused before that
+    rm -f a b c
+    head -c $(($(stat -c %s sized) - 25)) /dev/zero >a
+    (ulimit -f 1 && run turns a,b,/dev/full <in)
+    tail -c 11 a >end
+    held b end
+    echo "bytes $(($(stat -c %s sized) - $(stat -c %s a)))" >>got
+    expect 'a full disk behind a limit on the size' "taken 2\ndestination a: cannot write: File too large (os error 27)\ndestination /dev/full: $full\nstatus 0\nb 2\nend 1\nbytes 14\n"
+    # two paths of one file: what stands in front of another one's lines is not cut off
+    rm -f a b c
+    lines 6 >in
+    run turns a,./a,/dev/full <in
+    held a
+    expect 'a file that another one has appended to' "taken 2\ndestination /dev/full: $full\ndestination a: cannot cut: another one appended behind\nstatus 0\na 1 4 2\n"
+done
+rm -f a b c end in
+
 # The same where another one has emptied the file since it was opened, or appended to it: no line is torn.
 for change in ': >shared' 'printf "of another\n" >>shared'; do
     rm -f shared more

@@ -163,7 +163,7 @@ printf '@version: 4.2\nsource s { file("nowhere"); };\ndestination d { file("out
 printf '<11>x: one\n<12>x: tow\n' >in
 # waits FILE MIB RECORDS: what is told of the memory that records can take, of 65,536 bytes each; a printf format
 waits() {
-    printf '%s: records that wait take at most %s MiB of memory: %s of up to 65536 bytes (log-fifo-size of queues in memory and log-iw-size; log-msg-size)\\n' "$1" "$2" "$3"
+    printf '%s: records that wait take at most %s MiB of memory: %s of up to 65536 bytes (log-fifo-size of queues, log-iw-size, mem-buf-length; log-msg-size)\\n' "$1" "$2" "$3"
 }
 told=$(waits t 1257 20100)
 expect 'a configuration is checked' 0 't: ok\n' - check t

@@ -49,6 +49,11 @@ if [ -x "$devices" ]; then
     expect 'a destination that is there: the same, since the folder may not have been synced when it was made' 'fsync .\nfdatasync d\n'
     printf 'one\ntwo\n' | calls "$devices" send e
     expect 'a destination without fsync' ''
+    printf 'one\ntwo\nthree\nfour\nfive\nsix\n' | calls "$devices" turns f,g,h fsync
+    expect 'six lines in turns for three files under fsync: behind the opening one sync a file' 'fsync .\nfdatasync f\nfsync .\nfdatasync g\nfsync .\nfdatasync h\nfdatasync f\nfdatasync g\nfdatasync h\n'
+    printf 'one\ntwo\nthree\nfour\nfive\nsix\n' | strace -f -y -s 0 -e trace=write -o trace "$devices" turns f,g,h >said 2>told
+    sed -n 's/^[0-9]* *write(.*<\([^>]*\)>.*/write \1/p' trace | sed "s|$folder/||" | grep -x 'write [fgh]' >got
+    expect 'six lines in turns for three files: one write a file' 'write f\nwrite g\nwrite h\n'
 fi
 if [ -x "$program" ]; then
     printf '@version: 4.2\nsource s { file("in" flags(no-parse)); };\ndestination d { file("out" template("$MSG\\n")); };\nlog { source(s); destination(d); flags(flow-control); };\n' >c

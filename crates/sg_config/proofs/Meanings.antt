@@ -102,6 +102,7 @@ config-within within statements config none x =
       rooms = rw setup w.rooms;
       drivers = length x.plan.sources.items;
       each = rw inlets w.each;
+      held = rw outlets w.held;
       readings = ap (λ woods. length woods.inlets) x.paths.woods ∙ reads ∙ ap length (sym inlets);
       dests = ap (λ woods. woods.dests) x.paths.woods ∙ w.outlet_owners ∙ ap length (sym outlets);
       paths = x.paths.within;

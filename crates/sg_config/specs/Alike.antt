@@ -3,7 +3,7 @@ use Rattle.std.specs.Prelude.{◌≡◌, ℕ, ◌≤◌, length, map, slice_get,
 use Rattle.sg_machine.specs.declared.setup.SourceSetup.{SourceSetup}
 use Rattle.sg_machine.specs.declared.setup.DestSetup.{DestSetup}
 use Rattle.sg_run_plan.specs.declared.inlet.InletPlan.{InletPlan}
-use Rattle.sg_plan.specs.Limits.{NumbersStores, HasWindow, HasPlannedRoom, IsInlet}
+use Rattle.sg_plan.specs.Limits.{NumbersStores, HasWindow, HasPlannedRoom, IsInlet, AreHeldWithin}
 use Rattle.sg_table.specs.Patterns.{patterns_in}
 use Rattle.sg_tree.specs.Laws.{TopsStayWithin}
 use Rattle.sg_tree.specs.Offers.{woods_of}
@@ -38,6 +38,7 @@ pub record IsConfigWithin (config : Config) : Type 0 where
   pub drivers : ℕ
   pub each : (i : ℕ) (inlet : InletPlan) → slice_get config.inlets.items i ≡ Some inlet
       → IsInlet drivers inlet
+  pub held : AreHeldWithin config.outlets.items
   -- its log paths are those of its inlets and destinations
   pub readings : length (woods_of config.forest).inlets ≡ length config.inlets.items
   pub dests : (woods_of config.forest).dests ≡ length config.outlets.items

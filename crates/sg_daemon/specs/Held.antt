@@ -5,6 +5,8 @@ use Rattle.sg_machine.specs.declared.setup.SourceSetup.{SourceSetup}
 use Rattle.sg_machine.specs.declared.setup.BufferSetup.{BufferSetup}
 use Rattle.sg_machine.specs.declared.setup.DestSetup.{DestSetup}
 use Rattle.sg_run_plan.specs.declared.inlet.InletPlan.{InletPlan}
+use Rattle.sg_run_plan.specs.declared.outlet.OutletPlan.{OutletPlan}
+use Rattle.sg_run_plan.specs.declared.overflow.OverflowPlan.{OverflowPlan}
 use Rattle.sg_daemon.specs.declared.held.MostHeld.{MostHeld}
 
 -- counts stand still at the end of 64 bits
@@ -25,13 +27,23 @@ abbrev pub in_windows : ℕ → List SourceSetup → ℕ
 in_windows sum [] = sum
 in_windows sum (source ∷ sources) = in_windows (cut (sum + source.window)) sources
 
+-- and how many a disk-buffer that isn't reliable holds back there
+abbrev pub memory_size : Option OverflowPlan → ℕ
+memory_size None = 0
+memory_size (Some overflow) = overflow.memory
+
+abbrev pub held_back : ℕ → List OutletPlan → ℕ
+held_back sum [] = sum
+held_back sum (outlet ∷ outlets) = held_back (cut (sum + memory_size outlet.overflow)) outlets
+
 abbrev pub largest : ℕ → List InletPlan → ℕ
 largest most [] = most
 largest most (inlet ∷ inlets) = largest (max most inlet.limit) inlets
 
-abbrev pub held_by : List SourceSetup → List DestSetup → List InletPlan → MostHeld
-held_by sources dests inlets = record {
-  records = cut (in_queues 0 dests + in_windows 0 sources);
+abbrev pub held_by : List SourceSetup → List DestSetup → List InletPlan → List OutletPlan
+    → MostHeld
+held_by sources dests inlets outlets = record {
+  records = cut (cut (in_queues 0 dests + in_windows 0 sources) + held_back 0 outlets);
   size = largest 0 inlets;
 }
 
@@ -45,8 +57,8 @@ mebibytes_of held = cut (bytes_of held + 1048575) / 1048576
 abbrev pub numbers_text : (mebibytes records size : ℕ) → List ℕ
 numbers_text mebibytes records size =
     codes ": records that wait take at most " ++ (decimal mebibytes
-    ++ (codes " MiB of memory: " ++ (decimal records ++ (codes " of up to " ++ (decimal size
-    ++ codes " bytes (log-fifo-size of queues in memory and log-iw-size; log-msg-size)\n")))))
+    ++ (codes " MiB of memory: " ++ (decimal records ++ (codes " of up to " ++ (decimal size ++
+    codes " bytes (log-fifo-size of queues, log-iw-size, mem-buf-length; log-msg-size)\n")))))
 
 abbrev pub held_text : List ℕ → MostHeld → List ℕ
 held_text file held = file ++ numbers_text (mebibytes_of held) held.records held.size

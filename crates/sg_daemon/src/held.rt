@@ -6,15 +6,15 @@ ghost use Rattle.sg_daemon.specs.Held as spec;
 use sg_config::Config;
 use sg_device::NoMemory;
 use sg_machine::{DestSetup, SourceSetup};
-use sg_run_plan::InletPlan;
+use sg_run_plan::{InletPlan, OutletPlan};
 use sg_world::World;
 use std::alloc::Global;
 
 /// What is more than this is told, in bytes.
 const WORTH: u64 = 268_435_456;
 
-/// The records that can wait in memory at most: those of queues, which have no flow-control, and those of
-/// windows.
+/// The records that can wait in memory at most: those of queues, which have no flow-control, those of
+/// windows, and those that disk-buffers which aren't reliable hold back.
 #[derive(Clone, Copy, PartialEq, Eq, Drop)]
 pub struct MostHeld {
     pub records: u64,
@@ -41,6 +41,25 @@ fn in_queues(dests: &[DestSetup]) -> u64
     sum
 }
 
+fn memory_size(outlet: &OutletPlan) -> u32
+    ensures { result ≡ spec.memory_size outlet.now.overflow }
+{
+    match &outlet.overflow {
+        Some(overflow) => overflow.memory,
+        None => 0,
+    }
+}
+
+fn held_back(outlets: &[OutletPlan]) -> u64
+    ensures { result ≡ spec.held_back 0 outlets.now }
+{
+    let mut sum: u64 = 0;
+    for outlet in outlets {
+        sum = sum.saturating_add(u64::from(memory_size(outlet)));
+    }
+    sum
+}
+
 fn in_windows(sources: &[SourceSetup]) -> u64
     ensures { result ≡ spec.in_windows 0 sources.now }
 {
@@ -61,12 +80,18 @@ fn largest(inlets: &[InletPlan]) -> u32
     most
 }
 
-/// The records that wait at most, with these windows and queues, and records of these inlets.
-pub fn held_by(sources: &[SourceSetup], dests: &[DestSetup], inlets: &[InletPlan]) -> MostHeld
-    ensures { result ≡ spec.held_by sources.now dests.now inlets.now }
+/// The records that wait at most, with these windows, queues and outlets, and records of these inlets.
+pub fn held_by(
+    sources: &[SourceSetup],
+    dests: &[DestSetup],
+    inlets: &[InletPlan],
+    outlets: &[OutletPlan],
+) -> MostHeld
+    ensures { result ≡ spec.held_by sources.now dests.now inlets.now outlets.now }
 {
+    let records = in_queues(dests).saturating_add(in_windows(sources));
     MostHeld {
-        records: in_queues(dests).saturating_add(in_windows(sources)),
+        records: records.saturating_add(held_back(outlets)),
         size: largest(inlets),
     }
 }
@@ -95,7 +120,7 @@ fn append_numbers(
         (text.new.items ≡ text.old.items ++ spec.numbers_text mebibytes records size) }
 {
     let numbers = format!(in alloc;
-        ": records that wait take at most {mebibytes} MiB of memory: {records} of up to {size} bytes (log-fifo-size of queues in memory and log-iw-size; log-msg-size)\n"
+        ": records that wait take at most {mebibytes} MiB of memory: {records} of up to {size} bytes (log-fifo-size of queues, log-iw-size, mem-buf-length; log-msg-size)\n"
     )?;
     text.extend_from_slice(numbers.as_bytes())?;
     Ok(())
@@ -136,6 +161,7 @@ pub(crate) fn tell_held<W: World>(alloc: Global, file: &[u8], config: &Config, w
         setup.sources.as_slice(),
         setup.dests.as_slice(),
         &config.inlets,
+        &config.outlets,
     );
     if let Ok(Some(text)) = held_hint(alloc, file, held) {
         world.tell(&text);

@@ -3,7 +3,7 @@ ghost use Rattle.std.specs.Prelude.{◌≤◌, ◌<◌, ◌^◌};
 ghost use Rattle.sg_daemon.specs.Running.{RunsCommand};
 ghost use Rattle.sg_daemon.specs.Said.{ConcludesCommand};
 ghost use Rattle.sg_daemon.specs.declared.status.Status.TheVariants.{Ended};
-ghost use Rattle.sg_serve.specs.Exits.{exit_of};
+ghost use Rattle.sg_serve.specs.Exits.{way_of};
 
 use crate::say::{conclude, tell_unloaded};
 use crate::status::Status;
@@ -32,7 +32,7 @@ pub fn run<T: Threads + Wait + Eprint + Sync, W: World>(
 ) -> Status
     requires some { 0 < rounds }
     requires rounds { rounds ≤ 2 ^ 36 }
-    ensures { RunsCommand W.Feed.state (exit_of W.Drain.state W.Paths.state)
+    ensures { RunsCommand W.Feed.state (way_of W.Drain.state W.Paths.state W.Store.state)
         (W.state world.old) (W.state world.new)
         file.now once rounds result }
 {

@@ -2,7 +2,7 @@
 ghost use Rattle.sg_words.specs.Words.{asked};
 ghost use Rattle.sg_daemon.specs.Answers.{AnswersCommand};
 ghost use Rattle.sg_daemon.specs.Offline.{IsOffline};
-ghost use Rattle.sg_serve.specs.Exits.{exit_of};
+ghost use Rattle.sg_serve.specs.Exits.{way_of};
 
 use crate::check::check;
 use crate::drill::drill;
@@ -28,7 +28,7 @@ use std::thread::Threads;
 /// and so it returns.
 pub fn offline<W: World>(alloc: Global, words: &[Name], world: &mut W) -> Status
     requires { IsOffline words.now }
-    ensures { AnswersCommand W.Feed.state (exit_of W.Drain.state W.Paths.state)
+    ensures { AnswersCommand W.Feed.state (way_of W.Drain.state W.Paths.state W.Store.state)
         (W.state world.old) (W.state world.new)
         (asked words.now) result }
 {
@@ -61,7 +61,7 @@ pub fn daemon<T: Threads + Wait + Eprint + Sync, W: World>(
     words: &[Name],
     world: &mut W,
 ) -> Status
-    ensures { AnswersCommand W.Feed.state (exit_of W.Drain.state W.Paths.state)
+    ensures { AnswersCommand W.Feed.state (way_of W.Drain.state W.Paths.state W.Store.state)
         (W.state world.old) (W.state world.new)
         (asked words.now) result }
 {

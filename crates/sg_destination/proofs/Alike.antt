@@ -69,14 +69,15 @@ frames_are_one texts call a b p q =
 env_is_one : (defaults : Defaults) (call : Call) (a b : Env) → HasEnv defaults call a → HasEnv defaults call b → a ≡ b
 env_is_one defaults call a b p q = same_env a b (p.zone ∙ sym q.zone) (p.digits ∙ sym q.digits) (p.iso ∙ sym q.iso) (p.old ∙ sym q.old)
 
-same_plan : (a b : OutletPlan) → a.spec ≡ b.spec → a.shape ≡ b.shape → a.env ≡ b.env → a ≡ b
-same_plan a b spec shape env = λ i. record { spec = spec i; shape = shape i; env = env i }
+same_plan : (a b : OutletPlan) → a.spec ≡ b.spec → a.shape ≡ b.shape → a.env ≡ b.env → a.overflow ≡ b.overflow → a ≡ b
+same_plan a b spec shape env overflow = λ i. record { spec = spec i; shape = shape i; env = env i; overflow = overflow i }
 
 plan_is_one : (defaults : Defaults) (texts : Texts) (call : Call) (a b : OutletPlan) → IsOutletPlan defaults texts call a → IsOutletPlan defaults texts call b → a ≡ b
 plan_is_one defaults texts call a b p q =
     same_plan a b (p.spec ∙ sym q.spec)
     (frames_are_one texts call a.shape b.shape p.shape q.shape)
     (env_is_one defaults call a.env b.env p.env q.env)
+    (p.overflow ∙ sym q.overflow)
 
 same_destination : (a b : DestinationDriver) → a.plan ≡ b.plan → a.fifo ≡ b.fifo → a.buffer ≡ b.buffer → a ≡ b
 same_destination a b plan fifo buffer = λ i. record { plan = plan i; fifo = fifo i; buffer = buffer i }

@@ -16,7 +16,7 @@ use Rattle.sg_driver.specs.Limits.{fifo_size, fraction_digits, reopen_time, reap
 use Rattle.sg_driver.specs.Driver.{driver_kind, options_of, name_of}
 use Rattle.sg_driver.specs.Defaults.{iso_or}
 use Rattle.sg_destination.specs.Templates.{Texts, template_words, HasShape}
-use Rattle.sg_destination.specs.Buffers.{port_of, buffer_of}
+use Rattle.sg_destination.specs.Buffers.{port_of, buffer_of, overflow_of}
 use Rattle.sg_destination.specs.ByPath.{is_by_path, path_parts, with_path}
 
 abbrev pub reopen_of : Defaults → Call → ℕ
@@ -80,6 +80,7 @@ pub record IsOutletPlan (defaults : Defaults) (texts : Texts) (call : Call)
   pub spec : plan.spec ≡ spec_by (driver_kind call) defaults call
   pub shape : HasFrames texts call plan.shape
   pub env : HasEnv defaults call plan.env
+  pub overflow : plan.overflow ≡ overflow_of call
 
 -- what the options of a driver make, with these defaults and templates
 pub record IsDestination (defaults : Defaults) (texts : Texts) (call : Call)

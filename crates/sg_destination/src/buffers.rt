@@ -8,17 +8,19 @@ ghost use Rattle.sg_destination.specs.Buffers as spec;
 
 use itoa::Buffer;
 use sg_device::{Name, NoMemory};
-use sg_driver::{BUFFER_SIZE, PORTS, driver_kind, missing_unless, name_of};
+use sg_driver::{BUFFER_SIZE, MEMORY_LENGTH, PORTS, driver_kind, missing_unless, name_of};
 use sg_fault::{Placed, earlier};
 use sg_options::{
     Check, args_of, buffer_name, first_bad_argument, is_called, last_argument, last_argument_value,
-    nested_of, number_or, text_or, truth_or,
+    nested_of, number_or, overflow_name, text_or, truth_or,
 };
 use sg_outfmt::DriverKind;
+use sg_outside::StoreSpec;
 use sg_parse_expr::{Arg, Call};
+use sg_run_plan::OverflowPlan;
 use std::alloc::Global;
 
-/// The disk-buffer of a destination: the name of its store, its capacity in bytes, and whether its
+/// The reliable disk-buffer of a destination: the name of its store, its capacity in bytes, and whether its
 /// file is made with all the bytes that it can come to have.
 #[derive(Drop)]
 pub struct DiskBuffer {
@@ -32,6 +34,8 @@ const CHECKS: [(&[u8], Check); 2] = [
     (b"capacity-bytes", Check::Within(BUFFER_SIZE)),
 ];
 
+const MEMORY_CHECKS: [(&[u8], Check); 1] = [(b"mem-buf-length", Check::Within(MEMORY_LENGTH))];
+
 const SIZE_WORDS: [&[u8]; 2] = [b"disk-buf-size", b"capacity-bytes"];
 
 #[tactic(auto, unfolding(crate::specs::Buffers::buffer_checks))]
@@ -39,6 +43,25 @@ fn bad_option(args: &[Arg]) -> Option<Placed>
     ensures { result ≡ least (bad_values spec.buffer_checks (calls_of args.now)) }
 {
     first_bad_argument(&CHECKS, args)
+}
+
+// Whether a disk-buffer is reliable.
+fn is_reliable(buffer: &Call) -> bool
+    ensures { result ≡ spec.is_reliable buffer.now }
+{
+    truth_or(last_argument_value(&[b"reliable"], args_of(buffer)), true)
+}
+
+// What is wrong with the number of frames in memory, where that counts.
+#[tactic(auto, unfolding(crate::specs::Buffers::memory_checks))]
+fn bad_length(buffer: &Call) -> Option<Placed>
+    ensures { result ≡ least (spec.length_faults buffer.now) }
+{
+    if is_reliable(buffer) {
+        None
+    } else {
+        first_bad_argument(&MEMORY_CHECKS, args_of(buffer))
+    }
 }
 
 // What is wrong with the options of one disk-buffer.
@@ -49,7 +72,10 @@ fn own_fault(call: &Call) -> Option<Placed>
     let args = args_of(call);
     let reliable = missing_unless(last_argument(&[b"reliable"], args), call);
     let size = missing_unless(last_argument(&SIZE_WORDS, args), call);
-    earlier(reliable, earlier(size, bad_option(args)))
+    earlier(
+        reliable,
+        earlier(size, earlier(bad_option(args), bad_length(call))),
+    )
 }
 
 fn option_fault(call: &Call) -> Option<Placed>
@@ -133,7 +159,11 @@ fn store_of_buffer(alloc: Global, call: &Call, buffer: &Call) -> Result<Name, No
 {
     let text = destination_text(alloc, driver_kind(call), name_of(call), port_of(call))?;
     let directory = text_or(last_argument_value(&[b"dir"], args_of(buffer)), b".");
-    Ok(buffer_name(alloc, directory, &text)?)
+    if is_reliable(buffer) {
+        Ok(buffer_name(alloc, directory, &text)?)
+    } else {
+        Ok(overflow_name(alloc, directory, &text)?)
+    }
 }
 
 fn counting_buffer(call: &Call) -> Option<&Call>
@@ -171,16 +201,59 @@ fn whole_of(buffer: &Call) -> bool
     truth_or(last_argument_value(&[b"prealloc"], args_of(buffer)), false)
 }
 
-/// The disk-buffer of a destination, none where it has none.
+// The bytes with which the file of a disk-buffer is made that isn't reliable.
+fn size_of(capacity: u64, whole: bool) -> u64
+    ensures { result ≡ spec.size_by whole capacity }
+{
+    if whole {
+        capacity.saturating_mul(2).saturating_add(68)
+    } else {
+        128
+    }
+}
+
+fn memory_of(buffer: &Call) -> u32
+    ensures { result ≡ spec.memory_of buffer.now }
+{
+    let value = last_argument_value(&[b"mem-buf-length"], args_of(buffer));
+    number_or(value, MEMORY_LENGTH, 1_000)
+}
+
+/// The disk-buffer of a destination that isn't reliable, none where it has no such one.
+pub(crate) fn overflow_of(alloc: Global, call: &Call) -> Result<Option<OverflowPlan>, NoMemory>
+    ensures { IfOk result (λ overflow. overflow ≡ spec.overflow_of call.now) }
+{
+    let Some(buffer) = counting_buffer(call) else {
+        return Ok(None);
+    };
+    if is_reliable(buffer) {
+        return Ok(None);
+    }
+    let capacity = capacity_of(buffer);
+    Ok(Some(OverflowPlan {
+        store: StoreSpec {
+            name: store_of_buffer(alloc, call, buffer)?,
+            create: true,
+            size: size_of(capacity, whole_of(buffer)),
+        },
+        capacity,
+        memory: memory_of(buffer),
+    }))
+}
+
+/// The reliable disk-buffer of a destination, none where it has no such one.
 pub(crate) fn buffer_of(alloc: Global, call: &Call) -> Result<Option<DiskBuffer>, NoMemory>
     ensures { IfOk result (λ buffer. buffer ≡ spec.buffer_of call.now) }
 {
-    match counting_buffer(call) {
-        Some(buffer) => Ok(Some(DiskBuffer {
-            store: store_of_buffer(alloc, call, buffer)?,
-            capacity: capacity_of(buffer),
-            whole: whole_of(buffer),
-        })),
-        None => Ok(None),
+    let Some(buffer) = counting_buffer(call) else {
+        return Ok(None);
+    };
+    if !is_reliable(buffer) {
+        return Ok(None);
     }
+    Ok(Some(DiskBuffer {
+        store: store_of_buffer(alloc, call, buffer)?,
+        capacity: capacity_of(buffer),
+        whole: whole_of(buffer),
+    }))
 }

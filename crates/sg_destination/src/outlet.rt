@@ -4,7 +4,7 @@ ghost use Rattle.sg_driver.specs.Driver.{driver_kind};
 ghost use Rattle.sg_driver.specs.Defaults.{AreDefaults};
 ghost use Rattle.sg_destination.specs.Outlets as spec;
 
-use crate::buffers::{DiskBuffer, buffer_of, port_of};
+use crate::buffers::{DiskBuffer, buffer_of, overflow_of, port_of};
 use crate::by_path::{is_by_path, with_path};
 use crate::templates::{Templates, shape_of};
 use sg_device::{Name, NoMemory};
@@ -25,6 +25,7 @@ pub struct DestinationDriver {
     pub plan: OutletPlan,
     /// How many entries without flow-control its queue in memory holds.
     pub fifo: u32,
+    /// Its disk-buffer, where that is reliable.
     pub buffer: Option<DiskBuffer>,
 }
 
@@ -138,6 +139,7 @@ fn plan_of<T: Templates>(
         spec: spec_of(alloc, defaults, call)?,
         shape: with_path(alloc, call, text)?,
         env: env_of(defaults, call),
+        overflow: overflow_of(alloc, call)?,
     })
 }
 

@@ -2,12 +2,13 @@
 use Rattle.std.specs.Prelude.{◌≡◌, ℕ, true, List, Some, Result, Ok, Err, codes}
 use Rattle.std.specs.declared.alloc.AllocError.{AllocError}
 use Rattle.sg_outside.specs.World.{WorldState}
+use Rattle.sg_memory_disk.specs.Stores.{store_of}
 use Rattle.sg_memory.specs.Files.{file_of}
 use Rattle.sg_memory.specs.Open.{feed_of, drain_of, opener_of}
 use Rattle.sg_memory.specs.World.{new_world}
 use Rattle.sg_memory.specs.declared.files.MemoryFile.{MemoryFile}
 use Rattle.sg_words.specs.Numbers.{most_rounds}
-use Rattle.sg_serve.specs.Exits.{exit_of}
+use Rattle.sg_serve.specs.Exits.{way_of}
 use Rattle.sg_drill.specs.Input.{drill_text}
 use Rattle.sg_run.specs.Run.{RunsFile}
 use Rattle.sg_run.specs.declared.end.End.TheVariants.{Clean}
@@ -23,8 +24,8 @@ pub record AreDrillFiles (records : ℕ) (files : List MemoryFile) : Type 0 wher
 
 -- the configuration was run with `--once`, from one state of the machine to another, and nothing failed
 pub record RunClean (old new : WorldState) (outcome : Outcome) : Type 0 where
-  pub runs : RunsFile feed_of (exit_of drain_of opener_of) old new (codes "drill.conf") true
-      most_rounds (Ok outcome)
+  pub runs : RunsFile feed_of (way_of drain_of opener_of store_of) old new (codes "drill.conf")
+      true most_rounds (Ok outcome)
   pub clean : outcome.end ≡ Clean
 
 -- lack of memory is free

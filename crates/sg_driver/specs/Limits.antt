@@ -25,6 +25,10 @@ fraction_digits = record { low = 0; high = 6 }
 abbrev pub buffer_size : Range
 buffer_size = record { low = 1; high = 1073741824 }
 
+-- the frames that a disk-buffer holds in memory which isn't reliable
+abbrev pub memory_length : Range
+memory_length = record { low = 1; high = 100000 }
+
 -- in seconds
 abbrev pub reopen_time : Range
 reopen_time = record { low = 1; high = 86400 }

@@ -36,6 +36,12 @@ pub const BUFFER_SIZE: Range = Range {
     high: 1_073_741_824,
 };
 
+/// How many frames a disk-buffer that isn't reliable holds in memory.
+pub const MEMORY_LENGTH: Range = Range {
+    low: 1,
+    high: 100_000,
+};
+
 // In seconds.
 pub const REOPEN_TIME: Range = Range {
     low: 1,

@@ -1,12 +1,12 @@
 -- Paths in a list, and the list without one of them.
-use Rattle.std.proofs.Common.{◌≡◌, ◌≢◌, ◌<◌, ℕ, zero, suc, ◌+◌, get_or, List, [], ◌∷◌, ◌++◌, length, take, drop, refl, ap, ◌∙◌, sym, arith, length-append, length-take, length-drop, get_or-take}
+use Rattle.std.proofs.Common.{◌≡◌, ◌≢◌, ◌<◌, ℕ, suc, ◌+◌, get_or, List, [], ◌∷◌, ◌++◌, length, take, drop, refl, ap, ◌∙◌, sym, arith, length-append, length-take, length-drop, get_or-take}
 use Rattle.std.specs.Prelude.{true, false, ◌==◌, bytes_eq}
 use Rattle.std.specs.List.{Contains}
 use mathlib.Core.Logic.{◌⊎◌, inl, inr}
 use Rattle.std.proofs.lemmas.Bool.Decides.{eqb_tells}
 use Rattle.std.proofs.lemmas.Slice.Eq.{bytes_eq-Decides}
 use Rattle.std.proofs.lemmas.List.{get_or-drop, get_or_default}
-use Rattle.sg_dynfile.specs.Tracks.{IsPlaceOf}
+use Rattle.sg_dynfile.specs.Tracks.{IsPlaceOf, StandsAt}
 use Rattle.std.proofs.lemmas.List.Elements.{Contains-append_cases}
 use Rattle.sg_device.specs.Paths.{without_path}
 use Rattle.sg_device.proofs.PathLemmas.{without-here}
@@ -52,10 +52,14 @@ other-more path names i before lt differs k near is = either at behind (eqb_tell
     behind : ((k == i) ≡ false) × (k ≢ i) → ⊥
     behind (t, not) = before k (omega (arith, near, not)) is
 
--- the last of a list is in it
-contains-more : (y : List ℕ) (xs : List (List ℕ)) (x : List ℕ) → Contains xs x → Contains (y ∷ xs) x
-contains-more y xs x (k, lt, is) = (suc k, omega (arith, lt), is)
+-- the last of a list stands behind the others
+stands-more : (y : List ℕ) (xs : List (List ℕ)) (x : List ℕ) (k : ℕ) → StandsAt x xs k → StandsAt x (y ∷ xs) (suc k)
+stands-more y xs x k (lt, is) = (omega (arith, lt), is)
 
-pub contains-last : (xs : List (List ℕ)) (x : List ℕ) → Contains (xs ++ x ∷ []) x
-contains-last [] x = (zero, omega arith, refl)
-contains-last (y ∷ xs) x = contains-more y (xs ++ x ∷ []) x (contains-last xs x)
+pub stands-last : (xs : List (List ℕ)) (x : List ℕ) → StandsAt x (xs ++ x ∷ []) (length xs)
+stands-last [] x = (omega arith, refl)
+stands-last (y ∷ xs) x = stands-more y (xs ++ x ∷ []) x (length xs) (stands-last xs x)
+
+-- a path stands at its first place, and is in the list
+pub stands-first : (path : List ℕ) (names : List (List ℕ)) (place : ℕ) → IsPlaceOf path names place → StandsAt path names place
+stands-first path names place at = (at.inside, sym (get_or_default names place path [] at.inside) ∙ at.here)

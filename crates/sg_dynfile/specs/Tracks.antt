@@ -1,6 +1,5 @@
 -- The paths that are open at an opener.
 use Rattle.std.specs.Prelude.{◌≡◌, ◌≤◌, ◌<◌, ℕ, ◌+◌, List, [], ◌++◌, length, take, drop, slice_index_or, Result, Ok, Err}
-use Rattle.std.specs.List.{Contains}
 use Rattle.sg_device.specs.Outlet.{Refuses}
 use Rattle.sg_device.specs.Paths.{PathsState, counts_of, without_path}
 use Rattle.sg_device.specs.declared.fault.SendRefusal.{SendRefusal}
@@ -11,6 +10,10 @@ pub record IsPlaceOf (path : List ℕ) (names : List (List ℕ)) (place : ℕ) :
   pub inside : place < length names
   pub here : slice_index_or names place path ≡ path
   pub without : without_path path names ≡ take place names ++ drop (place + 1) names
+
+-- this path stands at this place of the list
+abbrev pub StandsAt : List ℕ → List (List ℕ) → ℕ → Type 0
+StandsAt path names place = (place < length names) × (slice_index_or names place [] ≡ path)
 
 -- the list names the open paths, and no more of them than are held
 pub record Tracks (opener : PathsState) (open_paths : OpenPaths) : Type 0 where
@@ -26,8 +29,8 @@ OnlyOpens old new = new ≡ record old { opened = new.opened }
 abbrev pub IsClosed : PathsState → PathsState → Type 0
 IsClosed old new = new ≡ record old { opened = [] }
 
--- the file of this path is open
-abbrev pub MakesOpen : PathsState → PathsState → List ℕ → Result Unit SendRefusal → Type 0
-MakesOpen old new path (Ok done) = OnlyOpens old new × Contains new.opened path
+-- the file of this path is open, and its path stands at this place
+abbrev pub MakesOpen : PathsState → PathsState → List ℕ → Result ℕ SendRefusal → Type 0
+MakesOpen old new path (Ok place) = OnlyOpens old new × StandsAt path new.opened place
 MakesOpen old new path (Err refusal) = (new.taken ≡ old.taken)
     × Refuses (counts_of old) (counts_of new) refusal

@@ -5,26 +5,27 @@ ghost use Rattle.sg_device.specs.Paths.{IsNewOpener};
 ghost use Rattle.sg_dynfile.specs.Tracks.{IsClosed};
 ghost use Rattle.sg_dynfile.specs.View.{outlet_of, LieUnderPaths};
 
-use crate::OpenPaths;
 use crate::sending::{close_after, close_all, close_unused, send_all};
-use sg_device::{Frames, Opener, Outlet, OutletFault, Reopened, SendRefusal};
+use crate::{OpenPaths, Waiting};
+use sg_by_path::SendsByPath;
+use sg_device::{Frames, Outlet, OutletFault, Reopened, SendRefusal};
 use std::alloc::Global;
 use std::marker::Model;
 
 /// An outlet for frames that say to which file they go. Each text goes to the file of its path, in
-/// the order of the frames, those of one path that stand behind each other by one send; a send ends at
-/// the first that is refused. So many files are held open at most: before one more is opened, the one
-/// that was used least recently is closed.
-pub struct DynFile<P: Opener> {
+/// the order of the frames; those whose files are open are handed to the opener together. A send ends
+/// at the first that is refused. So many files are held open at most: before one more is opened, the
+/// one that was used least recently is closed.
+pub struct DynFile<P: SendsByPath> {
     opener: P,
     open_paths: OpenPaths,
-    // The texts that go to one file together. It is empty between sends.
-    texts: Frames,
+    // The texts that are sent together. There is none between sends.
+    waiting: Waiting,
     // Whether the last send failed.
     failed: bool,
 }
 
-impl<P: Opener> Model for DynFile<P> {
+impl<P: SendsByPath> Model for DynFile<P> {
     ghost use Rattle.sg_dynfile.specs.View.{DynfileView, IsSound};
 
     ghost Value = { DynfileView P };
@@ -35,7 +36,7 @@ impl<P: Opener> Model for DynFile<P> {
         (record { opener = file.opener; open_paths = file.open_paths }) };
 }
 
-impl<P: Opener> DynFile<P> {
+impl<P: SendsByPath> DynFile<P> {
     /// Over an opener that has opened nothing yet. It takes no memory.
     pub fn new(alloc: Global, opener: P, held: u32) -> DynFile<P>
         requires fresh { IsNewOpener (P.state opener) }
@@ -47,7 +48,7 @@ impl<P: Opener> DynFile<P> {
         DynFile {
             opener,
             open_paths: OpenPaths::new(alloc, held),
-            texts: Frames::new(alloc),
+            waiting: Waiting::new(alloc),
             failed: false,
         }
     }
@@ -68,7 +69,7 @@ impl<P: Opener> DynFile<P> {
         let DynFile {
             mut opener,
             mut open_paths,
-            texts: _texts,
+            waiting: _waiting,
             failed: _,
         } = self;
         close_all(&mut opener, &mut open_paths);
@@ -76,7 +77,7 @@ impl<P: Opener> DynFile<P> {
     }
 }
 
-impl<P: Opener> Outlet for DynFile<P> {
+impl<P: SendsByPath> Outlet for DynFile<P> {
     ghost use Rattle.sg_dynfile.specs.View.{outlet_of};
 
     ghost state = { outlet_of P.state };
@@ -85,10 +86,10 @@ impl<P: Opener> Outlet for DynFile<P> {
         let answer = send_all(
             &mut self.opener,
             &mut self.open_paths,
-            &mut self.texts,
+            &mut self.waiting,
             frames,
         );
-        self.texts.clear();
+        self.waiting.clear();
         self.failed = answer == Err(SendRefusal::Fault);
         close_after(&mut self.opener, &mut self.open_paths, answer.is_ok());
         answer
@@ -117,6 +118,6 @@ impl<P: Opener> Outlet for DynFile<P> {
 // An outlet may be handed to another thread where its opener may.
 fn is_send<T: Send>() {}
 
-fn files_are_send<P: Opener + Send>() {
+fn files_are_send<P: SendsByPath + Send>() {
     is_send::<DynFile<P>>();
 }

@@ -6,7 +6,9 @@ mod laws;
 mod open_paths;
 mod parting;
 mod sending;
+mod waiting;
 
 pub use dyn_file::DynFile;
 pub use laws::texts_stand_under_their_paths;
 pub use open_paths::OpenPaths;
+pub use waiting::Waiting;

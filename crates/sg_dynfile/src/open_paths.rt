@@ -1,7 +1,7 @@
 // The paths that are open, and when each was used last.
-ghost use Rattle.std.specs.Prelude.{◌≡◌, ◌<◌, ◌≤◌, ◌+◌, ◌-◌, [], ◌∷◌, ◌++◌, length, take, drop, slice_index_or, bytes_eq, MatchOption, MatchBool, IfSome, IsTrue, OnOk, OnErr};
+ghost use Rattle.std.specs.Prelude.{◌≡◌, ◌<◌, ◌≤◌, ◌+◌, ◌-◌, [], ◌∷◌, ◌++◌, length, take, drop, slice_index_or, bytes_eq, MatchOption, IfSome, IsTrue, OnOk, OnErr};
 ghost use Rattle.std.specs.List.{Contains};
-ghost use Rattle.sg_dynfile.specs.Tracks.{IsPlaceOf};
+ghost use Rattle.sg_dynfile.specs.Tracks.{IsPlaceOf, StandsAt};
 
 use sg_device::{Name, NoMemory};
 use std::alloc::Global;
@@ -83,7 +83,7 @@ impl OpenPaths {
 
     // Whether the path stands at this place.
     fn is_at(&self, place: usize, path: &[u8]) -> bool
-        ensures { IsTrue result → Contains self.now.names.items path.now }
+        ensures { IsTrue result → StandsAt path.now self.now.names.items place }
     {
         match self.names.get(place) {
             Some(name) => name.bytes() == path,
@@ -93,7 +93,7 @@ impl OpenPaths {
 
     // The place of the path, where no other one before it has its mark.
     fn marked(&self, path: &[u8]) -> Option<usize>
-        ensures { IfSome result (λ place. Contains self.now.names.items path.now) }
+        ensures { IfSome result (StandsAt path.now self.now.names.items) }
     {
         let mark = mark_of(path);
         let place = self.marks.iter().position(|other| *other == mark)?;
@@ -104,22 +104,42 @@ impl OpenPaths {
         }
     }
 
-    /// Whether the path is open. It counts as used now.
-    pub(crate) fn uses(&mut self, path: &[u8]) -> bool
+    // The place of the path, where it is open.
+    fn find(&self, path: &[u8]) -> Option<usize>
+        ensures { MatchOption result (Contains self.now.names.items path.now → ⊥)
+            (StandsAt path.now self.now.names.items) }
+    {
+        if self.is_at(self.last, path) {
+            return Some(self.last);
+        }
+        if let Some(place) = self.marked(path) {
+            return Some(place);
+        }
+        place_of(&self.names, path)
+    }
+
+    /// The place of the path, where it is open. It counts as used now.
+    pub(crate) fn place_used(&mut self, path: &[u8]) -> Option<usize>
         ensures names { self.new.names ≡ self.old.names }
         ensures held { self.new.held ≡ self.old.held }
-        ensures open { MatchBool result (Contains self.old.names.items path.now)
-            (Contains self.old.names.items path.now → ⊥) }
+        ensures place { MatchOption result (Contains self.old.names.items path.now → ⊥)
+            (StandsAt path.now self.old.names.items) }
     {
-        if let Some(place) = self.marked(path) {
-            self.use_now(place);
-            return true;
-        }
-        let Some(place) = place_of(&self.names, path) else {
-            return false;
+        let Some(place) = self.find(path) else {
+            return None;
         };
         self.use_now(place);
-        true
+        Some(place)
+    }
+
+    /// The path of the text of this number counts as used now, by the places of the texts' paths.
+    pub(crate) fn use_of(&mut self, places: &[usize], number: u64)
+        ensures names { self.new.names ≡ self.old.names }
+        ensures held { self.new.held ≡ self.old.held }
+    {
+        if let Some(place) = places.get(number as usize) {
+            self.use_now(*place);
+        }
     }
 
     // The path at this place counts as used now.

@@ -1,19 +1,20 @@
 // Sending texts to their files, which are opened and closed on the way.
-ghost use Rattle.std.specs.Prelude.{◌≡◌, ◌≢◌, ◌<◌, ◌+◌, [], ◌∷◌, ◌++◌, List, ℕ, length, OnOk, IfErr};
+ghost use Rattle.std.specs.Prelude.{◌≡◌, ◌≢◌, ◌<◌, ◌+◌, [], ◌∷◌, ◌++◌, List, ℕ, length, OnOk, IfOk};
 ghost use Rattle.std.specs.List.{Contains};
-ghost use Rattle.sg_device.specs.Paths.{PathsState, SendsUnder};
-ghost use Rattle.sg_device.specs.declared.fault.SendRefusal.TheVariants.{NoMemory};
+ghost use Rattle.sg_device.specs.Paths.{PathsState};
+ghost use Rattle.sg_by_path.specs.Each.{SendsEach};
 ghost use Rattle.sg_dynfile.specs.Texts.{parted, AreWhole};
-ghost use Rattle.sg_dynfile.specs.Tracks.{Tracks, OnlyOpens, MakesOpen, IsClosed};
-ghost use Rattle.sg_dynfile.specs.Sending.{IsUnderWay, Follows, SendsFrames};
+ghost use Rattle.sg_dynfile.specs.Tracks.{Tracks, StandsAt, OnlyOpens, MakesOpen, IsClosed};
+ghost use Rattle.sg_dynfile.specs.Sending.{IsUnderWay, AreReady, AreNone, Follows, Finds, SendsFrames};
 
-use crate::OpenPaths;
 use crate::open_paths::place_of;
 use crate::parting::parts_of;
-use sg_device::{Frames, Opener, SendRefusal};
+use crate::{OpenPaths, Waiting};
+use sg_by_path::SendsByPath;
+use sg_device::{Frames, SendRefusal};
 
 // Closes the file at this place.
-fn close_at<P: Opener>(opener: &mut P, open_paths: &mut OpenPaths, place: usize)
+fn close_at<P: SendsByPath>(opener: &mut P, open_paths: &mut OpenPaths, place: usize)
     requires tracks { Tracks (P.state opener.old) open_paths.old }
     requires inside { place < length open_paths.old.names.items }
     ensures tracks { Tracks (P.state opener.new) open_paths.new }
@@ -31,7 +32,7 @@ fn close_at<P: Opener>(opener: &mut P, open_paths: &mut OpenPaths, place: usize)
 }
 
 /// Closes all files.
-pub(crate) fn close_all<P: Opener>(opener: &mut P, open_paths: &mut OpenPaths)
+pub(crate) fn close_all<P: SendsByPath>(opener: &mut P, open_paths: &mut OpenPaths)
     requires tracks { Tracks (P.state opener.old) open_paths.old }
     ensures { IsClosed (P.state opener.old) (P.state opener.new) }
 {
@@ -41,7 +42,7 @@ pub(crate) fn close_all<P: Opener>(opener: &mut P, open_paths: &mut OpenPaths)
 }
 
 /// Closes the file whose last use lies farthest back, where it took nothing for long.
-pub(crate) fn close_unused<P: Opener>(opener: &mut P, open_paths: &mut OpenPaths)
+pub(crate) fn close_unused<P: SendsByPath>(opener: &mut P, open_paths: &mut OpenPaths)
     requires tracks { Tracks (P.state opener.old) open_paths.old }
     ensures tracks { Tracks (P.state opener.new) open_paths.new }
     ensures same { OnlyOpens (P.state opener.old) (P.state opener.new) }
@@ -57,7 +58,7 @@ pub(crate) fn close_unused<P: Opener>(opener: &mut P, open_paths: &mut OpenPaths
 
 /// The same behind a send that was done: behind a refusal the file that was used last stays the one that
 /// is to be opened anew.
-pub(crate) fn close_after<P: Opener>(opener: &mut P, open_paths: &mut OpenPaths, done: bool)
+pub(crate) fn close_after<P: SendsByPath>(opener: &mut P, open_paths: &mut OpenPaths, done: bool)
     requires tracks { Tracks (P.state opener.old) open_paths.old }
     ensures tracks { Tracks (P.state opener.new) open_paths.new }
     ensures same { OnlyOpens (P.state opener.old) (P.state opener.new) }
@@ -68,7 +69,7 @@ pub(crate) fn close_after<P: Opener>(opener: &mut P, open_paths: &mut OpenPaths,
 }
 
 // Makes room for one more file: the one whose last use lies farthest back is closed.
-fn make_room<P: Opener>(opener: &mut P, open_paths: &mut OpenPaths)
+fn make_room<P: SendsByPath>(opener: &mut P, open_paths: &mut OpenPaths)
     requires tracks { Tracks (P.state opener.old) open_paths.old }
     ensures tracks { Tracks (P.state opener.new) open_paths.new }
     ensures room { length open_paths.new.names.items < open_paths.new.held }
@@ -82,12 +83,12 @@ fn make_room<P: Opener>(opener: &mut P, open_paths: &mut OpenPaths)
     }
 }
 
-// Opens the file of a path that isn't open.
-fn open_new<P: Opener>(
+// Opens the file of a path that isn't open, and tells the place of the path.
+fn open_new<P: SendsByPath>(
     opener: &mut P,
     open_paths: &mut OpenPaths,
     path: &[u8],
-) -> Result<(), SendRefusal>
+) -> Result<usize, SendRefusal>
     requires tracks { Tracks (P.state opener.old) open_paths.old }
     requires other { Contains (P.state opener.old).opened path.now → ⊥ }
     ensures tracks { Tracks (P.state opener.new) open_paths.new }
@@ -97,118 +98,128 @@ fn open_new<P: Opener>(
     if open_paths.push(path).is_err() {
         return Err(SendRefusal::NoMemory);
     }
+    let last = open_paths.names.len() - 1;
     match opener.open(path) {
-        Ok(()) => Ok(()),
+        Ok(()) => Ok(last),
         Err(refusal) => {
-            let last = open_paths.names.len() - 1;
             open_paths.remove(last);
             Err(refusal)
         }
     }
 }
 
-// Opens the file of a path where it isn't open.
-fn make_open<P: Opener>(
+// Sends the texts that wait.
+fn send_waiting<P: SendsByPath>(
     opener: &mut P,
     open_paths: &mut OpenPaths,
-    path: &[u8],
+    waiting: &Waiting,
 ) -> Result<(), SendRefusal>
     requires tracks { Tracks (P.state opener.old) open_paths.old }
+    requires ready { AreReady (P.state opener.old) waiting.now.places.items waiting.now.texts }
+    requires some { waiting.now.texts ≢ [] }
     ensures tracks { Tracks (P.state opener.new) open_paths.new }
-    ensures opened { MakesOpen (P.state opener.old) (P.state opener.new) path.now result }
+    ensures sends { SendsEach waiting.now.places.items waiting.now.texts (P.state opener.old)
+        (P.state opener.new) result }
 {
-    if open_paths.uses(path) {
-        return Ok(());
+    let before = opener.taken();
+    match opener.send_each(&waiting.places, &waiting.texts) {
+        Ok(()) => Ok(()),
+        Err(refusal) => {
+            let number = opener.taken().saturating_sub(before);
+            open_paths.use_of(&waiting.places, number);
+            Err(refusal)
+        }
     }
-    open_new(opener, open_paths, path)
 }
 
-// Sends texts to the file of their path.
-fn send_run<P: Opener>(
+// Sends the texts that wait, where there are any, so that none waits.
+fn send_before<P: SendsByPath>(
     opener: &mut P,
     open_paths: &mut OpenPaths,
-    path: &[u8],
-    texts: &Frames,
+    waiting: &mut Waiting,
 ) -> Result<(), SendRefusal>
     requires tracks { Tracks (P.state opener.old) open_paths.old }
-    requires some { texts.now ≢ [] }
+    requires ready { AreReady (P.state opener.old) waiting.old.places.items waiting.old.texts }
     ensures tracks { Tracks (P.state opener.new) open_paths.new }
-    ensures sends { SendsUnder path.now texts.now (P.state opener.old) (P.state opener.new)
+    ensures opened { (P.state opener.new).opened ≡ (P.state opener.old).opened }
+    ensures none { OnOk result (AreNone waiting.new.places.items waiting.new.texts) }
+    ensures follows { (first : PathsState) (frames : List (List ℕ))
+        → IsUnderWay first (P.state opener.old) frames waiting.old.places.items waiting.old.texts
+        → Follows first (P.state opener.new) frames waiting.new.places.items waiting.new.texts
         result }
 {
-    match make_open(opener, open_paths, path) {
-        Ok(()) => opener.send(path, texts),
-        Err(refusal) => Err(refusal),
-    }
-}
-
-// Where texts of another path wait, sends them.
-fn begin_run<P: Opener>(
-    opener: &mut P,
-    open_paths: &mut OpenPaths,
-    texts: &mut Frames,
-    run: &[u8],
-    path: &[u8],
-) -> Result<(), SendRefusal>
-    requires tracks { Tracks (P.state opener.old) open_paths.old }
-    ensures tracks { Tracks (P.state opener.new) open_paths.new }
-    ensures follows { (first : PathsState) (frames : List (List ℕ))
-        → IsUnderWay first (P.state opener.old) frames run.now texts.old
-        → Follows first (P.state opener.new) frames path.now texts.new result }
-{
-    if texts.is_empty() {
+    if waiting.texts.is_empty() {
         return Ok(());
     }
-    if run == path {
-        return Ok(());
-    }
-    match send_run(opener, open_paths, run, texts) {
+    match send_waiting(opener, open_paths, waiting) {
         Ok(()) => {
-            texts.clear();
+            waiting.clear();
             Ok(())
         }
         Err(refusal) => Err(refusal),
     }
 }
 
-// Puts a text behind those that wait.
-fn push_text(texts: &mut Frames, text: &[u8]) -> Result<(), SendRefusal>
-    ensures ok { OnOk result (texts.new ≡ texts.old ++ text.now ∷ []) }
-    ensures starved { IfErr result (λ refusal. refusal ≡ NoMemory) }
-{
-    texts.push(text)?;
-    Ok(())
-}
-
-// Puts the text of a frame behind those that wait. Where its path is another one, these are sent first.
-fn add_text<P: Opener>(
+// The place of a path, whose file is opened where it isn't open. Before that the texts that wait are
+// sent: a file that can't be opened is refused behind them.
+fn place_for<P: SendsByPath>(
     opener: &mut P,
     open_paths: &mut OpenPaths,
-    texts: &mut Frames,
-    run: &[u8],
+    waiting: &mut Waiting,
     path: &[u8],
-    text: &[u8],
-) -> Result<(), SendRefusal>
+) -> Result<usize, SendRefusal>
     requires tracks { Tracks (P.state opener.old) open_paths.old }
+    requires ready { AreReady (P.state opener.old) waiting.old.places.items waiting.old.texts }
     ensures tracks { Tracks (P.state opener.new) open_paths.new }
-    ensures follows { (first : PathsState) (frames : List (List ℕ)) (frame : List ℕ)
-        → IsUnderWay first (P.state opener.old) frames run.now texts.old
-        → parted frame ≡ record { path = path.now; text = text.now } → AreWhole (frame ∷ [])
-        → Follows first (P.state opener.new) (frames ++ frame ∷ []) path.now texts.new result }
-    ensures some { OnOk result (texts.new ≢ []) }
+    ensures ready { OnOk result
+        (AreReady (P.state opener.new) waiting.new.places.items waiting.new.texts) }
+    ensures finds { (first : PathsState) (frames : List (List ℕ)) (frame : List ℕ)
+        → IsUnderWay first (P.state opener.old) frames waiting.old.places.items waiting.old.texts
+        → Finds first (P.state opener.new) frames frame path.now waiting.new.places.items
+        waiting.new.texts result }
+    ensures stands { IfOk result (StandsAt path.now (P.state opener.new).opened) }
 {
-    match begin_run(opener, open_paths, texts, run, path) {
-        Ok(()) => push_text(texts, text),
+    if let Some(place) = open_paths.place_used(path) {
+        return Ok(place);
+    }
+    match send_before(opener, open_paths, waiting) {
+        Ok(()) => open_new(opener, open_paths, path),
         Err(refusal) => Err(refusal),
     }
 }
 
-/// Sends the texts of the frames in order, those of one path that stand behind each other by one send,
-/// up to the first that is refused.
-pub(crate) fn send_all<P: Opener>(
+// Puts the text of a frame behind those that wait, for the file of its path.
+fn add_text<P: SendsByPath>(
     opener: &mut P,
     open_paths: &mut OpenPaths,
-    texts: &mut Frames,
+    waiting: &mut Waiting,
+    path: &[u8],
+    text: &[u8],
+) -> Result<(), SendRefusal>
+    requires tracks { Tracks (P.state opener.old) open_paths.old }
+    requires ready { AreReady (P.state opener.old) waiting.old.places.items waiting.old.texts }
+    ensures tracks { Tracks (P.state opener.new) open_paths.new }
+    ensures ready { OnOk result
+        (AreReady (P.state opener.new) waiting.new.places.items waiting.new.texts) }
+    ensures follows { (first : PathsState) (frames : List (List ℕ)) (frame : List ℕ)
+        → IsUnderWay first (P.state opener.old) frames waiting.old.places.items waiting.old.texts
+        → parted frame ≡ record { path = path.now; text = text.now } → AreWhole (frame ∷ [])
+        → Follows first (P.state opener.new) (frames ++ frame ∷ []) waiting.new.places.items
+        waiting.new.texts result }
+    ensures some { OnOk result (waiting.new.texts ≢ []) }
+{
+    match place_for(opener, open_paths, waiting, path) {
+        Ok(place) => waiting.push(place, text),
+        Err(refusal) => Err(refusal),
+    }
+}
+
+/// Sends the texts of the frames in order up to the first that is refused, those together whose files
+/// are open.
+pub(crate) fn send_all<P: SendsByPath>(
+    opener: &mut P,
+    open_paths: &mut OpenPaths,
+    waiting: &mut Waiting,
     frames: &Frames,
 ) -> Result<(), SendRefusal>
     requires tracks { Tracks (P.state opener.old) open_paths.old }
@@ -216,18 +227,16 @@ pub(crate) fn send_all<P: Opener>(
     ensures tracks { Tracks (P.state opener.new) open_paths.new }
     ensures sends { SendsFrames (P.state opener.old) (P.state opener.new) frames.now result }
 {
-    texts.clear();
-    let mut run = frames.bytes();
+    waiting.clear();
     let mut rest = frames.bytes();
     for size in frames.sizes() {
         let (frame, behind) = rest.split_at(*size);
         let (path, text) = parts_of(frame);
-        match add_text(opener, open_paths, texts, run, path, text) {
+        match add_text(opener, open_paths, waiting, path, text) {
             Ok(()) => {}
             Err(refusal) => return Err(refusal),
         }
-        run = path;
         rest = behind;
     }
-    send_run(opener, open_paths, run, texts)
+    send_waiting(opener, open_paths, waiting)
 }

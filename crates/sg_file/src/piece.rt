@@ -12,6 +12,8 @@ pub(crate) struct AppendedPiece {
     pub(crate) torn_at: Option<usize>,
     // Whether all bytes are one piece that ends there.
     single: bool,
+    // Whether they are one write's, whose place wasn't asked for.
+    unplaced: bool,
 }
 
 impl AppendedPiece {
@@ -24,6 +26,7 @@ impl AppendedPiece {
             end: 0,
             torn_at: None,
             single: true,
+            unplaced: false,
         }
     }
 
@@ -40,11 +43,29 @@ impl AppendedPiece {
                     self.torn_at = Some(self.count);
                 }
                 self.single = self.single && goes_on;
+                self.unplaced = false;
                 self.end = place;
             }
-            _ => self.single = false,
+            _ => {
+                self.unplaced = self.count == 0;
+                self.single = false;
+            }
         }
         self.count += count;
+    }
+
+    /// Whether all bytes are one write's, whose place wasn't asked for.
+    pub(crate) fn is_unplaced(&self) -> bool {
+        self.unplaced
+    }
+
+    /// The only write's bytes end at this place.
+    pub(crate) fn ends_at(&mut self, place: u64)
+        ensures { self.new.count ≡ self.old.count }
+    {
+        self.single = true;
+        self.unplaced = false;
+        self.end = place;
     }
 
     /// The place behind the first `keep` bytes, where all are one piece.

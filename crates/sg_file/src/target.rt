@@ -15,6 +15,8 @@ use std::os::unix::fs::{OpenOptionsExt, PermissionsExt};
 
 const TORN: &str = "another one appended within a record";
 
+const KEPT: &str = "another one appended behind";
+
 /// How a file is appended to.
 #[derive(Clone, Copy, Drop)]
 pub struct Appending {
@@ -37,6 +39,8 @@ pub struct Target {
     file: File,
     // The number of the file's lock.
     lock: u64,
+    // What the last call of `put` has appended.
+    last: AppendedPiece,
     retry: Retry,
     health: Health,
     rest: IdleWait,
@@ -91,6 +95,7 @@ impl Target {
             how,
             file,
             lock,
+            last: AppendedPiece::new(),
             retry,
             health,
             rest,
@@ -111,6 +116,7 @@ impl Target {
             Ok(file) => {
                 self.lock = number_of(&file);
                 self.file = file;
+                self.last = AppendedPiece::new();
                 Ok(Reopened::Ready)
             }
             Err(error) => {
@@ -178,22 +184,48 @@ impl Target {
     pub fn put(&mut self, frames: &Frames) -> usize
         ensures { KeepsTarget self.old self.new }
     {
-        let bytes = frames.bytes();
-        let mut piece = self.append(bytes);
+        let mut piece = self.append(frames.bytes());
+        let whole = self.count_whole(frames, &mut piece);
+        self.last = piece;
+        whole
+    }
+
+    // Tells how many of the frames count that were appended.
+    fn count_whole(&mut self, frames: &Frames, piece: &mut AppendedPiece) -> usize
+        ensures { KeepsTarget self.old self.new }
+    {
         if let Some(count) = piece.torn_at {
             self.health.fails("write", &io::Error::other(TORN));
-            return self.keep_whole(frames, &mut piece, count);
+            return self.keep_whole(frames, piece, count);
         }
-        if piece.count < bytes.len() {
+        if piece.count < frames.bytes().len() {
             let count = piece.count;
-            return self.keep_whole(frames, &mut piece, count);
+            return self.keep_whole(frames, piece, count);
         }
         if self.settle() {
             self.works();
             return frames.len();
         }
-        self.cut(&mut piece, 0);
+        self.cut(piece, 0);
         0
+    }
+
+    /// Of what the last call of `put` appended, keeps the first `keep` bytes. The others are cut off
+    /// again, where nothing stands behind them; where that fails, it is told on standard error.
+    pub fn take_back(&mut self, keep: usize)
+        ensures { KeepsTarget self.old self.new }
+    {
+        let mut piece = self.last;
+        if piece.is_unplaced()
+            && let Ok(place) = self.file.stream_position()
+        {
+            piece.ends_at(place);
+        }
+        self.cut(&mut piece, keep);
+        if piece.count > keep {
+            self.health.fails("cut", &io::Error::other(KEPT));
+        }
+        self.last = piece;
     }
 
     // Of what was appended, keeps the whole frames within the first `count` bytes, and tells how many of

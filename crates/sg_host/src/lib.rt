@@ -3,6 +3,7 @@
 #![tactic(auto)]
 
 mod cells;
+mod grouped;
 mod inlets;
 mod marked;
 mod outlets;

@@ -7,6 +7,8 @@ ghost use Rattle.sg_host.specs.Counts.{paths_state, new_paths, OpensToo, SameCou
 ghost use Rattle.sg_host.specs.Paths.{opener_of, paths_of, HostPathsOpen, PathsRefuse};
 
 use crate::cells::{HostPathsCell, add_paths, paths_cell};
+use crate::grouped::Grouped;
+use sg_by_path::SendsByPath;
 use sg_device::{Frames, Name, OpenRefusal, Opener, OutletFault, Reopened, SendRefusal};
 use sg_file::{Appending, Health, IdleWait, OutletCounts, Retry, Target};
 use sg_outside::OutletSpec;
@@ -62,6 +64,15 @@ fn mark_of(path: &[u8]) -> u64 {
 }
 
 impl OpenFile {
+    // Appends the texts, and tells how many of them count.
+    fn put(&mut self, rt: HostRuntime, texts: &Frames) -> usize {
+        let whole = self.target.put(texts);
+        if whole > 0 {
+            self.used = Instant::now(&rt).ok();
+        }
+        whole
+    }
+
     // Whether it took nothing for so many seconds.
     fn is_unused(&self, rt: HostRuntime, seconds: u32) -> bool {
         let Some(used) = self.used else {
@@ -82,8 +93,8 @@ struct Missed {
     health: Option<Health>,
 }
 
-/// The files that an opener has open. Each file is appended to by one write for the texts of a send. A
-/// path that can't be opened is tried again once in `time-reopen()` seconds.
+/// The files that an opener has open. Each file is appended to by one write for all its texts of a send.
+/// A path that can't be opened is tried again once in `time-reopen()` seconds.
 #[derive(Drop)]
 pub struct OpenedFiles {
     alloc: Global,
@@ -95,6 +106,7 @@ pub struct OpenedFiles {
     counts: PathCounts,
     // The files, in the order of their paths.
     files: Vec<OpenFile>,
+    grouped: Grouped,
     missed: Option<Missed>,
 }
 
@@ -127,6 +139,16 @@ fn take_out(paths: &mut Vec<Name>, path: &[u8]) -> Option<usize>
     let i = find(paths, path)?;
     paths.remove(i);
     Some(i)
+}
+
+// The place that all of them are, where there is one.
+fn same_place(places: &[usize]) -> Option<usize> {
+    let first = places.first()?;
+    if places.iter().all(|place| *place == *first) {
+        Some(*first)
+    } else {
+        None
+    }
 }
 
 impl HostOpener {
@@ -234,14 +256,103 @@ impl OpenedFiles {
         let Some(i) = self.place_of(path) else {
             return 0;
         };
-        let Some(file) = self.files.get_mut(i) else {
-            return 0;
-        };
-        let whole = file.target.put(texts);
-        if whole > 0 {
-            file.used = Instant::now(&self.rt).ok();
+        self.put_at(i, texts)
+    }
+
+    // Appends the texts to the file of this number, and tells how many of them count.
+    fn put_at(&mut self, file: usize, texts: &Frames) -> usize
+        ensures { self.new.counts ≡ self.old.counts }
+    {
+        match self.files.get_mut(file) {
+            Some(open) => open.put(self.rt, texts),
+            None => 0,
         }
-        whole
+    }
+
+    // Appends each text to the file of its place, where so many can be counted. It tells how many of the
+    // first texts count, and why those behind them don't.
+    fn put_each(&mut self, places: &[usize], texts: &Frames) -> (usize, SendRefusal)
+        ensures { self.new.counts ≡ self.old.counts }
+    {
+        if !self.counts.calls.has_room(texts.len()) {
+            return (0, SendRefusal::Fault);
+        }
+        if let Some(file) = same_place(places) {
+            return (self.put_at(file, texts), SendRefusal::Fault);
+        }
+        if self.grouped.begin(places, texts, self.files.len()).is_err() {
+            return (0, SendRefusal::NoMemory);
+        }
+        let ended = self.put_groups(places, texts);
+        self.take_back(places, texts, ended.0);
+        ended
+    }
+
+    // Appends to one file after another, to each the texts in front of the first that was refused.
+    fn put_groups(&mut self, places: &[usize], texts: &Frames) -> (usize, SendRefusal)
+        ensures { self.new.counts ≡ self.old.counts }
+    {
+        let mut ended = (texts.len(), SendRefusal::Fault);
+        for number in 0..places.len() {
+            let file = places[number];
+            if number < ended.0
+                && self.grouped.is_first(number, file)
+                && let Some(refused) = self.put_group(texts, file, ended.0)
+            {
+                ended = refused;
+            }
+        }
+        ended
+    }
+
+    // Appends those texts to a file that have a number below this one. It tells the number of the first
+    // that is refused, and why.
+    fn put_group(
+        &mut self,
+        texts: &Frames,
+        file: usize,
+        below: usize,
+    ) -> Option<(usize, SendRefusal)>
+        ensures { self.new.counts ≡ self.old.counts }
+    {
+        if self.grouped.gather(texts, file, below).is_err() {
+            return Some((self.grouped.number_behind(file, 0), SendRefusal::NoMemory));
+        }
+        let count = match self.files.get_mut(file) {
+            Some(open) => open.put(self.rt, &self.grouped.texts),
+            None => 0,
+        };
+        self.grouped.was_appended(file, count);
+        if count < self.grouped.texts.len() {
+            return Some((self.grouped.number_behind(file, count), SendRefusal::Fault));
+        }
+        None
+    }
+
+    // Cuts those files back that have appended texts behind the first `whole` ones.
+    fn take_back(&mut self, places: &[usize], texts: &Frames, whole: usize)
+        ensures { self.new.counts ≡ self.old.counts }
+    {
+        if whole >= texts.len() {
+            return;
+        }
+        for number in 0..places.len() {
+            let file = places[number];
+            if self.grouped.is_first(number, file)
+                && let Some(keep) = self.grouped.kept(texts, file, whole)
+            {
+                self.cut(file, keep);
+            }
+        }
+    }
+
+    // Cuts a file back to the first `keep` bytes of what was appended last.
+    fn cut(&mut self, file: usize, keep: usize)
+        ensures { self.new.counts ≡ self.old.counts }
+    {
+        if let Some(open) = self.files.get_mut(file) {
+            open.target.take_back(keep);
+        }
     }
 
     // Whether the file of a path is one to be closed, since it took nothing for so long.
@@ -311,6 +422,13 @@ impl Opener for HostOpener {
     }
 }
 
+impl SendsByPath for HostOpener {
+    fn send_each(&mut self, places: &[usize], texts: &Frames) -> Result<(), SendRefusal> {
+        let (whole, refusal) = self.opened.put_each(places, texts);
+        self.opened.counts.calls.sent(whole, texts.len(), refusal)
+    }
+}
+
 /// The openers opened, those closed, and the number of openings that failed.
 pub struct HostPaths {
     rt: HostRuntime,
@@ -377,6 +495,7 @@ impl HostPaths {
             reap: *reap,
             counts: PathCounts::new(alloc),
             files: Vec::new(alloc),
+            grouped: Grouped::new(alloc),
             missed: None,
         };
         let opener = HostOpener {

@@ -108,6 +108,7 @@ asked-runnable plan once can = record {
   few_outlets = can.few_outlets;
   few_stores = can.few_stores;
   fetches = can.fetches;
+  held = can.held;
 }
 
 module _ {R I O : Type 0} (feed : I → InletState) (drain : O → OutletState) (offers : R → ℕ → Record → List Offer → Type 0) (inlets dests : R → ℕ) (plan : RunPlan) (by : List R) (can : IsRunnable plan) (of_files : AreOfFiles plan) (lines : AreFilesByLines plan)

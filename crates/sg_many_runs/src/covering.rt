@@ -4,7 +4,7 @@ ghost use Rattle.sg_many_runs.specs.Clean.{PlanRunsEndClean};
 ghost use Rattle.sg_many_runs.specs.Fresh.{NewAreCovered, PlanRunsStayCovered, PlanRunsTakeOnce};
 ghost use Rattle.sg_many_runs.specs.Rest.{PlanRunsRest};
 ghost use Rattle.sg_many_runs.specs.Happened.{PlanRunsCover, PlanRunsHappen};
-ghost use Rattle.sg_serve.specs.Exits.{exit_of};
+ghost use Rattle.sg_serve.specs.Exits.{way_of};
 
 use sg_buffer::lists_are_one;
 use sg_one_run::clean_runs_end;
@@ -15,7 +15,7 @@ use sg_world::World;
 /// What happens at the core of a plan's run that opened it: events that begin with what the stores had,
 /// in which the first records of each file came in, behind the place at which its reading began.
 pub fn plan_runs_happen<W: World, R: Router>(world: &W, router: &[R])
-    ensures { PlanRunsHappen W.Feed.state (exit_of W.Drain.state W.Paths.state)
+    ensures { PlanRunsHappen W.Feed.state (way_of W.Drain.state W.Paths.state W.Store.state)
         R.offers R.inlets R.dests }
 {
     let _world = world;
@@ -26,7 +26,7 @@ pub fn plan_runs_happen<W: World, R: Router>(world: &W, router: &[R])
 /// entries whose frames its outlets took and the passes of the records that came in: at its return, and
 /// at every moment since the core was opened.
 pub fn plan_runs_cover<W: World, R: Router>(world: &W, router: &[R])
-    ensures { PlanRunsCover W.Feed.state (exit_of W.Drain.state W.Paths.state)
+    ensures { PlanRunsCover W.Feed.state (way_of W.Drain.state W.Paths.state W.Store.state)
         R.offers R.inlets R.dests }
 {
     let _world = world;
@@ -37,7 +37,7 @@ pub fn plan_runs_cover<W: World, R: Router>(world: &W, router: &[R])
 
 /// A plan's run that opened no core leaves covered what it found covered.
 pub fn plan_runs_rest<W: World, R: Router>(world: &W, router: &[R])
-    ensures { PlanRunsRest W.Feed.state (exit_of W.Drain.state W.Paths.state)
+    ensures { PlanRunsRest W.Feed.state (way_of W.Drain.state W.Paths.state W.Store.state)
         R.offers R.inlets R.dests }
 {
     let _world = world;
@@ -48,7 +48,7 @@ pub fn plan_runs_rest<W: World, R: Router>(world: &W, router: &[R])
 /// A plan's run that ended quietly, with nothing counted as failed, over files that are read by lines,
 /// leaves no entry in a disk-buffer, and each position behind all items of its file.
 pub fn plan_runs_end_clean<W: World, R: Router>(world: &W, router: &[R])
-    ensures { PlanRunsEndClean W.Feed.state (exit_of W.Drain.state W.Paths.state)
+    ensures { PlanRunsEndClean W.Feed.state (way_of W.Drain.state W.Paths.state W.Store.state)
         R.offers R.inlets R.dests }
 {
     clean_runs_end(world, router);
@@ -59,7 +59,7 @@ pub fn plan_runs_end_clean<W: World, R: Router>(world: &W, router: &[R])
 /// that, and one that ended quietly with nothing counted as failed, each record of each file has a pass
 /// of which each offer with flow-control was taken at least once, and nothing but offers was taken.
 pub fn plan_runs_add_up<W: World, R: Router>(world: &W, router: &[R])
-    ensures { PlanRunsAddUp W.Feed.state (exit_of W.Drain.state W.Paths.state)
+    ensures { PlanRunsAddUp W.Feed.state (way_of W.Drain.state W.Paths.state W.Store.state)
         R.offers R.inlets R.dests }
 {
     clean_runs_end(world, router);
@@ -79,7 +79,7 @@ pub fn new_stores_are_covered<R: Router>(router: &[R])
 /// Any number of a plan's runs from new stores on, each stopped at any moment, also the last, leave covered
 /// what they took and the records that came in.
 pub fn plan_runs_stay_covered<W: World, R: Router>(world: &W, router: &[R])
-    ensures { PlanRunsStayCovered W.Feed.state (exit_of W.Drain.state W.Paths.state)
+    ensures { PlanRunsStayCovered W.Feed.state (way_of W.Drain.state W.Paths.state W.Store.state)
         R.offers R.inlets R.dests }
 {
     clean_runs_end(world, router);
@@ -92,7 +92,7 @@ pub fn plan_runs_stay_covered<W: World, R: Router>(world: &W, router: &[R])
 /// record of each file came in once, and of its offers each destination took each once, but for those
 /// that were dropped without flow-control.
 pub fn plan_runs_take_once<W: World, R: Router>(world: &W, router: &[R])
-    ensures { PlanRunsTakeOnce W.Feed.state (exit_of W.Drain.state W.Paths.state)
+    ensures { PlanRunsTakeOnce W.Feed.state (way_of W.Drain.state W.Paths.state W.Store.state)
         R.offers R.inlets R.dests }
 {
     clean_runs_end(world, router);

@@ -3,6 +3,7 @@ use Rattle.std.specs.Prelude.{◌≡◌, ℕ, ◌+◌, ◌-◌, List, [], ◌++�
 use Rattle.std.specs.Option.{option_map}
 use Rattle.sg_device.specs.Outlet.{failing_after}
 use Rattle.sg_device.specs.Paths.{PathsState, PathText, under_path}
+use Rattle.sg_by_path.specs.Each.{under_places}
 use Rattle.sg_memory.specs.declared.paths.MemoryPaths.{MemoryPaths}
 use Rattle.sg_memory.specs.declared.paths.TakenText.{TakenText}
 
@@ -30,6 +31,18 @@ pub record TakesUnder (path : List ℕ) (texts : List (List ℕ)) (k : ℕ)
   pub taken : new.taken
       ≡ option_map (λ before. before
       ++ under_path path (take (new.count - old.count) texts)) old.taken
+  pub count : new.count ≡ old.count + k
+  pub failing : new.failing ≡ failing_after k old.failing
+  pub opened : new.opened ≡ old.opened
+  pub faults : new.faults ≡ old.faults
+  pub laters : new.laters ≡ old.laters
+
+-- the first so many of the texts were taken, each under the path at its place, and nothing failed or was too early
+pub record TakesEach (places : List ℕ) (texts : List (List ℕ)) (k : ℕ)
+    (old new : PathsState) : Type 0 where
+  pub taken : new.taken
+      ≡ option_map (λ before. before
+      ++ take (new.count - old.count) (under_places old.opened places texts)) old.taken
   pub count : new.count ≡ old.count + k
   pub failing : new.failing ≡ failing_after k old.failing
   pub opened : new.opened ≡ old.opened

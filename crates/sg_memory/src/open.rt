@@ -9,6 +9,7 @@ ghost use Rattle.sg_memory_disk.specs.Plan.{after_call};
 
 use crate::cells::{MemoryInletCell, MemoryOutletCell, MemoryPathsCell};
 use crate::{MemoryInlet, MemoryOutlet, MemoryPaths};
+use sg_by_path::SendsByPath;
 use sg_device::{
     Frames, Inlet, InletFault, Opener, Outlet, OutletFault, Pull, Reopened, SendRefusal,
 };
@@ -107,5 +108,11 @@ impl Opener for MemoryOpener {
 
     fn close(&mut self, path: &[u8]) {
         self.paths.close(path);
+    }
+}
+
+impl SendsByPath for MemoryOpener {
+    fn send_each(&mut self, places: &[usize], texts: &Frames) -> Result<(), SendRefusal> {
+        self.paths.send_each(places, texts)
     }
 }

@@ -1,11 +1,13 @@
 // An opener of files in memory by their paths.
-ghost use Rattle.std.specs.Prelude.{◌≡◌, ◌≢◌, ◌≤◌, ◌<◌, ◌+◌, ◌-◌, [], ◌∷◌, ◌++◌, Ok, length, map, take, OnOk, OnErr};
-ghost use Rattle.std.specs.List.{Contains};
+ghost use Rattle.std.specs.Prelude.{◌≡◌, ◌≢◌, ◌≤◌, ◌<◌, ◌+◌, ◌-◌, [], ◌∷◌, ◌++◌, Ok, length, map, take, get_or, OnOk, OnErr};
+ghost use Rattle.std.specs.List.{All, Contains};
+ghost use Rattle.sg_by_path.specs.Each.{SendsEach, under_places};
 ghost use Rattle.sg_device.specs.Paths.{PathOpens, PathSends, PathReopens, PathCloses, under_path, without_path};
 ghost use Rattle.sg_device.specs.declared.outlet.Reopened.TheVariants.{Ready};
 ghost use Rattle.sg_memory.specs.Paths.{text_of, without_at};
 
 use crate::PathsPlan;
+use sg_by_path::SendsByPath;
 use sg_device::{Frames, Name, NoMemory, Opener, OutletFault, Reopened, SendRefusal};
 use std::alloc::{AllocError, Global};
 
@@ -43,7 +45,7 @@ impl Drop for MemoryPaths {
 }
 
 impl MemoryPaths {
-    ghost use Rattle.sg_memory.specs.Paths.{paths_of, new_paths, TakesUnder};
+    ghost use Rattle.sg_memory.specs.Paths.{paths_of, new_paths, TakesUnder, TakesEach};
     ghost use Rattle.sg_memory.specs.Scripts.{ReopensBy};
 
     /// An opener with no open file.
@@ -118,6 +120,41 @@ impl MemoryPaths {
     {
         let wanted = self.plan.calls.first.min(texts.len() - 1);
         self.take_texts(path, texts, wanted)
+    }
+
+    // The same two of texts for several files.
+    fn take_each(&mut self, places: &[usize], texts: &Frames, wanted: usize) -> usize
+        requires many { length places.now ≡ length texts.now }
+        requires open { All (λ place. place < length self.old.opened.items) places.now }
+        requires few { wanted ≤ length texts.now }
+        ensures took { TakesEach places.now texts.now result (paths_of self.old)
+            (paths_of self.new) }
+        ensures bound { result ≤ wanted }
+    {
+        let count = each_first(
+            self.alloc,
+            &mut self.taken,
+            &self.opened,
+            places,
+            texts,
+            wanted,
+        );
+        if count > 0 {
+            self.failing = 0;
+        }
+        count
+    }
+
+    fn take_some_each(&mut self, places: &[usize], texts: &Frames) -> usize
+        requires many { length places.now ≡ length texts.now }
+        requires open { All (λ place. place < length self.old.opened.items) places.now }
+        requires some { texts.now ≢ [] }
+        ensures took { TakesEach places.now texts.now result (paths_of self.old)
+            (paths_of self.new) }
+        ensures some { result < length texts.now }
+    {
+        let wanted = self.plan.calls.first.min(texts.len() - 1);
+        self.take_each(places, texts, wanted)
     }
 }
 
@@ -201,6 +238,40 @@ impl Opener for MemoryPaths {
     }
 }
 
+impl SendsByPath for MemoryPaths {
+    ghost use Rattle.sg_memory.specs.Paths.{paths_of};
+    ghost use Rattle.sg_memory.specs.Scripts.{SendsByScript};
+
+    fn send_each(&mut self, places: &[usize], texts: &Frames) -> Result<(), SendRefusal>
+        requires many { length places.now ≡ length texts.now }
+        requires some { texts.now ≢ [] }
+        requires open { All (λ place. place < length (paths_of self.old).opened) places.now }
+        ensures sends { SendsEach places.now texts.now (paths_of self.old) (paths_of self.new)
+            result }
+        ensures fails { SendsByScript self.old.plan.calls self.old.laters result }
+    {
+        match self.plan.calls.next_send(self.laters) {
+            Ok(Reopened::Ready) => {
+                if self.take_each(places, texts, texts.len()) < texts.len() {
+                    return Err(SendRefusal::NoMemory);
+                }
+                Ok(())
+            }
+            Ok(Reopened::Later) => {
+                let _count = self.take_some_each(places, texts);
+                self.laters += 1;
+                Err(SendRefusal::Later)
+            }
+            Err(_) => {
+                let _count = self.take_some_each(places, texts);
+                self.faults = self.faults.saturating_add(1);
+                self.failing = self.failing.saturating_add(1);
+                Err(SendRefusal::Fault)
+            }
+        }
+    }
+}
+
 // Takes a text for the file of a path.
 fn push_text(
     alloc: Global,
@@ -242,6 +313,49 @@ fn take_first(
     let mut count = 0;
     for size in &texts.sizes()[..wanted] {
         let (text, behind) = rest.split_at(*size);
+        if push_text(alloc, taken, path, text).is_err() {
+            return count;
+        }
+        rest = behind;
+        count += 1;
+    }
+    count
+}
+
+// The path of the text of this number.
+fn path_at<'a>(opened: &'a [Name], places: &[usize], number: usize) -> &'a [u8]
+    requires inside { number < length places.now }
+    requires open { All (λ place. place < length opened.now) places.now }
+    ensures { result.now ≡ get_or opened.now (get_or places.now number 0) [] }
+{
+    opened[places[number]].bytes()
+}
+
+// Takes the first texts, each for the file of its path, fewer only where memory runs out, and says how
+// many.
+fn each_first(
+    alloc: Global,
+    taken: &mut Vec<TakenText>,
+    opened: &[Name],
+    places: &[usize],
+    texts: &Frames,
+    wanted: usize,
+) -> usize
+    requires many { length places.now ≡ length texts.now }
+    requires open { All (λ place. place < length opened.now) places.now }
+    requires few { wanted ≤ length texts.now }
+    ensures taken { map text_of taken.new.items
+        ≡ map text_of taken.old.items
+        ++ take (length taken.new.items - length taken.old.items)
+        (under_places opened.now places.now texts.now) }
+    ensures counted { length taken.new.items ≡ length taken.old.items + result }
+    ensures bound { result ≤ wanted }
+{
+    let mut rest = texts.bytes();
+    let mut count = 0;
+    for size in &texts.sizes()[..wanted] {
+        let (text, behind) = rest.split_at(*size);
+        let path = path_at(opened, places, count);
         if push_text(alloc, taken, path, text).is_err() {
             return count;
         }

@@ -12,7 +12,8 @@ set subst unset|value(\"NAME\") goes into its parentheses
 groupset groupunset|values(\"GLOB\") goes into its parentheses";
 
 /// What is missing of a disk-buffer.
-const RELIABLE: &[u8] = b"reliable(yes) goes into its parentheses: it has no default";
+const RELIABLE: &[u8] =
+    b"reliable(yes) or reliable(no) goes into its parentheses: it has no default";
 
 const SIZE: &[u8] = b"disk-buf-size(BYTES) goes into its parentheses: it has no default";
 

@@ -14,6 +14,7 @@ time-reap|0 to 31,536,000
 port localport|1 to 65,535
 max-connections|1 to 100
 disk-buf-size capacity-bytes|1 to 1,073,741,824
+mem-buf-length|1 to 100,000
 perm dir-perm|three or four octal digits, as 0640
 time-zone recv-time-zone|\"+hh:mm\" or \"-hh:mm\", in quotes
 default-facility|a name or 0 to 23

@@ -20,8 +20,7 @@ db-parser grouping-by json-parser|nothing
 template-escape|nothing, or `template-escape(no)` in the braces of a template statement
 program-override host-override|a rewrite, as `set(\"P\" value(\"PROGRAM\"))`, `set(\"H\" value(\"HOST\"))`
 quote-pairs dialect escape-double-char escape-none escape-backslash|nothing: `\"` alone quotes
-strip-whitespace|nothing: blanks are part of a field
-reliable|`reliable(yes)`, and a size: both are required";
+strip-whitespace|nothing: blanks are part of a field";
 
 /// Comparisons of syslog-ng.
 const COMPARED: &[u8] = b"`eq` and its kin, which compare texts byte by byte";
@@ -74,7 +73,7 @@ fn begins_with_digit(text: &[u8]) -> bool {
 
 // Whether what stands in its parentheses may be what isn't supported.
 fn has_values(caller: &Token) -> bool {
-    has_word(b"reliable template-escape transport", caller.text.bytes())
+    has_word(b"template-escape transport", caller.text.bytes())
 }
 
 /// What goes in the place of the token of this place, or of the call in whose parentheses it stands.

@@ -16,11 +16,12 @@ use Rattle.sg_outfmt.specs.declared.shape.Shape.TheVariants.{ByPath}
 use Rattle.sg_dynfile.specs.ByPath.{frame_by_path, texts_with_path}
 use Rattle.sg_dynfile.specs.Texts.{parted, texts_under}
 use Rattle.sg_dynfile.specs.View.{LieUnderPaths}
-use Rattle.sg_list.proofs.ListLemmas.{some-same}
+use Rattle.sg_list.proofs.ListLemmas.{some-same, slice_get-map}
 use Rattle.sg_run_plan.specs.declared.outlet.OutletPlan.{OutletPlan}
 use Rattle.sg_run_plan.specs.declared.plan.RunPlan.{RunPlan}
 use Rattle.sg_serve.specs.Devices.{AllAreNew}
-use Rattle.sg_serve.specs.Exits.{AllLie}
+use Rattle.sg_serve.specs.Exits.{Out, LieIn, AllLie, AreFreshOuts, outlets_in}
+use Rattle.sg_serve.specs.Overflows.{IsWayWhole, AreWaysWhole}
 use Rattle.sg_serve.specs.Run.{CoreRun, Reached}
 use Rattle.sg_one_run.specs.ByPath.{AreByPath, TakesByPath}
 use Rattle.sg_one_run.specs.Headline.{TakesThese, frame_planned}
@@ -30,18 +31,27 @@ abbrev pub StandUnder : Type 0
 StandUnder =
     (path text : List TemplatePart) (env : Env) (name : List ℕ) (messages : List Content) → texts_under name (map parted (map (frame_by_path path text env) messages)) ≡ texts_with_path path text env name messages
 
--- an opener that was closed belongs to an outlet, whose frames are its texts
-lie-at : (outlets : List OutletState) (openers : List (Option PathsState)) (d : ℕ) (opener : PathsState) → AllLie outlets openers → slice_get openers d ≡ Some (Some opener)
-    → (outlet : OutletState) × (slice_get outlets d ≡ Some outlet) × LieUnderPaths outlet.taken opener.taken
-lie-at [] [] d opener lie at = absurd (let wrong : None ≡ Some (Some opener) = at in cc)
-lie-at [] (p ∷ ps) d opener lie at = absurd lie
-lie-at (o ∷ os) [] d opener lie at = absurd lie
-lie-at (o ∷ os) (None ∷ ps) zero opener lie at = absurd (let wrong : None ≡ Some opener = some-same None (Some opener) at in cc)
-lie-at (o ∷ os) (None ∷ ps) (suc d) opener lie at = lie-at os ps d opener lie at
-lie-at (o ∷ os) (Some p ∷ ps) zero opener lie at =
-    let same : Some p ≡ Some opener = some-same (Some p) (Some opener) at in
-    (o, refl, subst (λ (q : PathsState). LieUnderPaths o.taken q.taken) (some-same p opener same) lie.0)
-lie-at (o ∷ os) (Some p ∷ ps) (suc d) opener lie at = lie-at os ps d opener lie.1 at
+-- what is told of all that was closed holds of each
+lie-at : (outs : List Out) (d : ℕ) (out : Out) → AllLie outs → slice_get outs d ≡ Some out → LieIn out
+lie-at [] d out lie at = absurd (let wrong : None ≡ Some out = at in cc)
+lie-at (o ∷ os) zero out lie at = subst LieIn (some-same o out at) lie.0
+lie-at (o ∷ os) (suc d) out lie at = lie-at os d out lie.1 at
+
+whole-at : (outs : List Out) (d : ℕ) (out : Out) → AreWaysWhole outs → slice_get outs d ≡ Some out → IsWayWhole out
+whole-at [] d out whole at = absurd (let wrong : None ≡ Some out = at in cc)
+whole-at (o ∷ os) zero out whole at = subst IsWayWhole (some-same o out at) whole.0
+whole-at (o ∷ os) (suc d) out whole at = whole-at os d out whole.1 at
+
+-- where no frames are held back, the texts of an opener are those of the frames that its outlet took
+lies-under : (out : Out) (opener : PathsState) → LieIn out → IsWayWhole out → out.held ≡ None → out.opener ≡ Some opener → LieUnderPaths out.outlet.taken opener.taken
+lies-under out opener lie whole none has =
+    let here : LieUnderPaths out.inner.taken opener.taken = subst (λ (o : Option PathsState). IfSome o (λ (p : PathsState). LieUnderPaths out.inner.taken p.taken)) has lie in
+    subst (λ (o : OutletState). LieUnderPaths o.taken opener.taken) (whole.direct none) here
+
+-- those that are fresh have taken nothing
+pub fresh-new : (outs : List Out) → AreFreshOuts outs → AllAreNew (outlets_in outs)
+fresh-new [] fresh = tt
+fresh-new (o ∷ os) fresh = ((fresh.0).0, fresh-new os fresh.1)
 
 -- there is one in a list of as many
 new-at : (opened closed : List OutletState) (d : ℕ) (last : OutletState) → AllAreNew opened → length closed ≡ length opened → slice_get closed d ≡ Some last → (first : OutletState) × (slice_get opened d ≡ Some first) × IsUnusedOutlet first
@@ -69,9 +79,11 @@ told stand plan messages (Some before) last texts new takes lie =
     let some : texts ≡ Some (map parted frames) = lie ∙ ap (λ (l : Option (List (List ℕ))). option_map (map parted) l) takes in
     subst (λ (t : Option (List PathText)). IfSome t (AreByPath plan messages)) (sym some) (texts-are stand plan messages frames are)
 
--- The openers of a run belong to outlets that were new, each of which was closed.
+-- The outlets of a run were new, each of them was closed, and each opener lies under the one that it stands behind.
 pub record OutletsLie (reached : Reached) : Type 0 where
-  pub lie : AllLie reached.outlets_closed reached.openers
+  pub lie : AllLie reached.outs_closed
+  pub whole : AreWaysWhole reached.outs_closed
+  pub closed_are : reached.outlets_closed ≡ outlets_in reached.outs_closed
   pub are_new : AllAreNew reached.outlets
   pub as_many : length reached.outlets_closed ≡ length reached.outlets
 
@@ -82,14 +94,16 @@ map-both f g (x ∷ xs) = ap (λ ys. f (g x) ∷ ys) (map-both f g xs)
 
 -- what each outlet took stands under the paths of its opener
 pub takes-by-path : StandUnder → (plan : RunPlan) (reached : Reached) (run : CoreRun) (start : State) (events : List Event) → OutletsLie reached → TakesThese plan reached run start events → TakesByPath plan reached run start events
-takes-by-path stand plan reached run start events outlets takes d outlet opener first last at_plan at_opener is told_first =
-    let closed = lie-at reached.outlets_closed reached.openers d opener outlets.lie at_opener in
-    let new = new-at reached.outlets reached.outlets_closed d closed.0 outlets.are_new outlets.as_many closed.1 in
-    let these = takes d new.0 closed.0 first last new.1 closed.1 is in
+takes-by-path stand plan reached run start events outlets takes d outlet out opener first last at_plan at_out direct has is told_first =
+    let closed : slice_get reached.outlets_closed d ≡ Some out.outlet =
+    ap (λ (os : List OutletState). slice_get os d) outlets.closed_are ∙ slice_get-map (λ (o : Out). o.outlet) reached.outs_closed d out at_out in
+    let lie = lies-under out opener (lie-at reached.outs_closed d out outlets.lie at_out) (whole-at reached.outs_closed d out outlets.whole at_out) direct has in
+    let new = new-at reached.outlets reached.outlets_closed d out.outlet outlets.are_new outlets.as_many closed in
+    let these = takes d new.0 out.outlet first last new.1 closed is in
     let entries = drop (length first.settled) last.settled in
     let frame : Content → List ℕ = λ m. frame_of outlet.shape m outlet.env in
-    let framed : (closed.0).taken ≡ option_map (λ before. before ++ map (λ e. frame e.message) entries) (new.0).taken =
+    let framed : (out.outlet).taken ≡ option_map (λ before. before ++ map (λ e. frame e.message) entries) (new.0).taken =
     these.told told_first ∙ ap (λ (o : Option OutletPlan). option_map (λ before. before ++ map (λ e. frame_planned o e.message) entries) (new.0).taken) at_plan in
-    let apart : (closed.0).taken ≡ option_map (λ before. before ++ map frame (map (λ e. e.message) entries)) (new.0).taken =
+    let apart : (out.outlet).taken ≡ option_map (λ before. before ++ map frame (map (λ e. e.message) entries)) (new.0).taken =
     framed ∙ ap (λ (fs : List (List ℕ)). option_map (λ before. before ++ fs) (new.0).taken) (map-both frame (λ (e : DestEntry). e.message) entries) in
-    told stand outlet (map (λ e. e.message) entries) (new.0).taken (closed.0).taken opener.taken (new.2).taken apart closed.2
+    told stand outlet (map (λ e. e.message) entries) (new.0).taken (out.outlet).taken opener.taken (new.2).taken apart lie

@@ -45,7 +45,7 @@ use Rattle.sg_one_run.proofs.SeenLemmas.{frames-settled}
 use Rattle.sg_one_run.proofs.TakenLemmas.{settles-taken}
 use Rattle.sg_one_run.proofs.ToldLemmas.{told-goes}
 use Rattle.sg_serve.specs.Actors.{SourceView, DestView, source_view, dest_view}
-use Rattle.sg_serve.specs.Devices.{inlet_asked}
+use Rattle.sg_serve.specs.Devices.{inlet_asked, AllAreNew}
 use Rattle.sg_serve.specs.Plan.{IsRunnable}
 use Rattle.sg_serve.specs.Rewinds.{position_at, places_of}
 use Rattle.sg_serve.specs.Run.{CoreRun, Reached, HoldsRun, IsServed, PlanRunHolds}
@@ -54,7 +54,7 @@ use Rattle.sg_serve.specs.declared.ending.PlanEnded.{PlanEnded}
 use Rattle.sg_serve.specs.declared.ending.PlanEnded.TheVariants.{Before, Ran as RanSo}
 use Rattle.sg_run_plan.specs.declared.plan.RunPlan.{RunPlan}
 use Rattle.sg_one_run.specs.Headline.{frame_planned, frame_at, records_of, TakesPrefixes, TakesThese, ShowsAccepted, Headline, Delivers, RunsDeliver}
-use Rattle.sg_one_run.proofs.ByPathLemmas.{StandUnder, OutletsLie, takes-by-path}
+use Rattle.sg_one_run.proofs.ByPathLemmas.{StandUnder, OutletsLie, fresh-new, takes-by-path}
 use Rattle.sg_one_run.proofs.PreludeLemmas.{get-back, AreStill, still-rewinds, still-either, admitted-later, dest-behind, opened-many}
 use Rattle.sg_one_run.proofs.SourceLemmas.{nothing-read, planned-of, source-texts, no-texts}
 use Rattle.sg_one_run.proofs.FaultLemmas.{shows-faults}
@@ -271,4 +271,10 @@ held feed drain offers inlets dests files plan routers rounds reached (Some run)
 pub deliver : {R I O : Type 0} (feed : I → InletState) (drain : O → OutletState) (offers : R → ℕ → Record → List Offer → Type 0) (inlets dests : R → ℕ) → Laws → RunsDeliver feed drain offers inlets dests
 deliver feed drain offers inlets dests laws old new plan routers rounds ending reached runnable runs =
     held feed drain offers inlets dests old.files plan routers rounds reached reached.core ending laws runnable
-    (λ many. record { lie = (runs.devices).lie; are_new = ((runs.devices).outlets).are_new; as_many = many }) runs.holds
+    (λ many. record {
+      lie = (runs.devices).lie;
+      whole = (runs.devices).whole;
+      closed_are = (runs.devices).closed_are;
+      are_new = subst AllAreNew (sym (runs.devices).outlets_are) (fresh-new reached.outs ((runs.devices).outlets).fresh);
+      as_many = many;
+    }) runs.holds

@@ -4,7 +4,7 @@ ghost use Rattle.sg_actor.specs.SourceTurns.{ActorState};
 ghost use Rattle.sg_actor.specs.declared.settings.SourceSpec.{SourceSpec as ASpec};
 ghost use Rattle.sg_turns.specs.Turns.{Turn};
 ghost use Rattle.sg_one_run.specs.Bounds.{SourceIsBounded, RunsAreBounded, UntroubledRunsEnd};
-ghost use Rattle.sg_serve.specs.Exits.{exit_of};
+ghost use Rattle.sg_serve.specs.Exits.{way_of};
 
 use sg_route::Router;
 use sg_world::World;
@@ -22,7 +22,7 @@ pub fn sources_are_bounded<R: Router>(router: &R)
 /// A run of a plan that spent its rounds had no more than the bytes, parts, offers, recovered entries,
 /// faults and waits of its devices pay for.
 pub fn runs_are_bounded<W: World, R: Router>(world: &W, router: &[R])
-    ensures { RunsAreBounded W.Feed.state (exit_of W.Drain.state W.Paths.state)
+    ensures { RunsAreBounded W.Feed.state (way_of W.Drain.state W.Paths.state W.Store.state)
         R.offers R.inlets R.dests }
 {
     let _world = world;
@@ -32,7 +32,7 @@ pub fn runs_are_bounded<W: World, R: Router>(world: &W, router: &[R])
 /// A run without faults, idle inlets and outlets that can't be reopened yet ends before so many rounds are
 /// spent.
 pub fn untroubled_runs_end<W: World, R: Router>(world: &W, router: &[R])
-    ensures { UntroubledRunsEnd W.Feed.state (exit_of W.Drain.state W.Paths.state)
+    ensures { UntroubledRunsEnd W.Feed.state (way_of W.Drain.state W.Paths.state W.Store.state)
         R.offers R.inlets R.dests }
 {
     let _world = world;

@@ -2,14 +2,14 @@
 ghost use Rattle.sg_one_run.specs.Failing.{FailedStoresCount};
 ghost use Rattle.sg_one_run.specs.Resting.{QuietRunsRest};
 ghost use Rattle.sg_one_run.specs.Ending.{CleanRunsEnd};
-ghost use Rattle.sg_serve.specs.Exits.{exit_of};
+ghost use Rattle.sg_serve.specs.Exits.{way_of};
 
 use sg_route::Router;
 use sg_world::World;
 
 /// Each store that is told to have failed has failed in the run: its count of faults rose.
 pub fn failed_stores_count<W: World, R: Router>(world: &W, router: &[R])
-    ensures { FailedStoresCount W.Feed.state (exit_of W.Drain.state W.Paths.state)
+    ensures { FailedStoresCount W.Feed.state (way_of W.Drain.state W.Paths.state W.Store.state)
         R.offers R.inlets R.dests }
 {
     let _world = world;
@@ -20,7 +20,7 @@ pub fn failed_stores_count<W: World, R: Router>(world: &W, router: &[R])
 /// source has no credit; each destination that isn't given up has settled all that it keeps; and each
 /// stored position is the mark, where its store works.
 pub fn quiet_runs_rest<W: World, R: Router>(world: &W, router: &[R])
-    ensures { QuietRunsRest W.Feed.state (exit_of W.Drain.state W.Paths.state)
+    ensures { QuietRunsRest W.Feed.state (way_of W.Drain.state W.Paths.state W.Store.state)
         R.offers R.inlets R.dests }
 {
     let _world = world;
@@ -30,7 +30,7 @@ pub fn quiet_runs_rest<W: World, R: Router>(world: &W, router: &[R])
 /// Where nothing failed either, each inlet has ended and all that it gave came in, all is settled, no
 /// disk-buffer has an entry, and each stored position is the end of the last record.
 pub fn clean_runs_end<W: World, R: Router>(world: &W, router: &[R])
-    ensures { CleanRunsEnd W.Feed.state (exit_of W.Drain.state W.Paths.state)
+    ensures { CleanRunsEnd W.Feed.state (way_of W.Drain.state W.Paths.state W.Store.state)
         R.offers R.inlets R.dests }
 {
     let _world = world;

@@ -1,6 +1,6 @@
 // The headline of a plan's run.
 ghost use Rattle.sg_one_run.specs.Headline.{RunsDeliver};
-ghost use Rattle.sg_serve.specs.Exits.{exit_of};
+ghost use Rattle.sg_serve.specs.Exits.{way_of};
 
 use crate::drops_are_due;
 use sg_dynfile::texts_stand_under_their_paths;
@@ -14,7 +14,7 @@ use sg_world::World;
 /// no more and no fewer, each under the path that its message names where messages do; the windows are
 /// kept; and at every moment since the core was opened a stop leaves in the stores what is safe.
 pub fn runs_deliver<W: World, R: Router>(world: &W, router: &[R])
-    ensures { RunsDeliver W.Feed.state (exit_of W.Drain.state W.Paths.state)
+    ensures { RunsDeliver W.Feed.state (way_of W.Drain.state W.Paths.state W.Store.state)
         R.offers R.inlets R.dests }
 {
     let _world = world;

@@ -22,6 +22,10 @@ escaped (b ∷ bytes) = escaped_byte b ++ escaped bytes
 abbrev pub position_name : List ℕ → List ℕ
 position_name path = codes "pos-" ++ escaped path
 
--- the store of a destination's disk-buffer in a directory, by what the destination is
+-- the store of a destination's reliable disk-buffer in a directory, by what the destination is
 abbrev pub buffer_name : List ℕ → List ℕ → List ℕ
 buffer_name directory destination = directory ++ (codes "/queue-" ++ escaped destination)
+
+-- the same of one that isn't reliable
+abbrev pub overflow_name : List ℕ → List ℕ → List ℕ
+overflow_name directory destination = directory ++ (codes "/over-" ++ escaped destination)

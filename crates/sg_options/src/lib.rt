@@ -20,5 +20,5 @@ pub use settings::{
     args_of, has_flag, is_called, item_of, last_argument, last_argument_value, last_option,
     last_value, nested_of, value_of,
 };
-pub use stores::{buffer_name, position_name};
+pub use stores::{buffer_name, overflow_name, position_name};
 pub use zones::zone_of;

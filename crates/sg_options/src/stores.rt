@@ -48,13 +48,23 @@ pub fn position_name(alloc: Global, path: &[u8]) -> Result<Name, NoMemory>
     Ok(Name::from_vec(text))
 }
 
-/// The name of the store of a disk-buffer: the directory, `/queue-`, and what the destination is, in which
-/// the bytes are written as in the name of a position store.
+/// The name of the store of a reliable disk-buffer: the directory, `/queue-`, and what the destination is, in
+/// which the bytes are written as in the name of a position store.
 pub fn buffer_name(alloc: Global, directory: &[u8], destination: &[u8]) -> Result<Name, NoMemory>
     ensures { IfOk result (λ name. name ≡ spec.buffer_name directory.now destination.now) }
 {
     let mut text = directory.to_vec(alloc)?;
     text.extend_from_slice(b"/queue-")?;
+    append_escaped(&mut text, destination)?;
+    Ok(Name::from_vec(text))
+}
+
+/// The same of one that isn't reliable, with `/over-`.
+pub fn overflow_name(alloc: Global, directory: &[u8], destination: &[u8]) -> Result<Name, NoMemory>
+    ensures { IfOk result (λ name. name ≡ spec.overflow_name directory.now destination.now) }
+{
+    let mut text = directory.to_vec(alloc)?;
+    text.extend_from_slice(b"/over-")?;
     append_escaped(&mut text, destination)?;
     Ok(Name::from_vec(text))
 }

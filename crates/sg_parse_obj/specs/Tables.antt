@@ -94,12 +94,12 @@ framed =
 -- options of a disk-buffer
 unfoldable pub disk : List (List ℕ × Flat)
 disk =
-    (codes "reliable", flat.One class.Yes)
+    (codes "reliable", flat.One class.Truth)
     ∷ (codes "disk-buf-size", flat.One class.Number)
     ∷ (codes "capacity-bytes", flat.One class.Number)
     ∷ (codes "dir", flat.One class.Name)
     ∷ (codes "mem-buf-size", flat.Skipped)
-    ∷ (codes "mem-buf-length", flat.Skipped)
+    ∷ (codes "mem-buf-length", flat.One class.Number)
     ∷ (codes "qout-size", flat.Skipped)
     ∷ (codes "front-cache-size", flat.Skipped)
     ∷ (codes "flow-control-window-bytes", flat.Skipped)

@@ -128,12 +128,12 @@ const SENDER: [(&[u8], OptionForm); 2] = [
 const FRAMED: [(&[u8], OptionForm); 1] = [(b"template", OptionForm::Flat(Flat::One(Class::Name)))];
 
 const DISK: [(&[u8], Flat); 13] = [
-    (b"reliable", Flat::One(Class::Yes)),
+    (b"reliable", Flat::One(Class::Truth)),
     (b"disk-buf-size", Flat::One(Class::Number)),
     (b"capacity-bytes", Flat::One(Class::Number)),
     (b"dir", Flat::One(Class::Name)),
     (b"mem-buf-size", Flat::Skipped),
-    (b"mem-buf-length", Flat::Skipped),
+    (b"mem-buf-length", Flat::One(Class::Number)),
     (b"qout-size", Flat::Skipped),
     (b"front-cache-size", Flat::Skipped),
     (b"flow-control-window-bytes", Flat::Skipped),

@@ -52,7 +52,7 @@ fn token_at(tokens: &[Token], at: usize) -> &Token
 ///
 /// The kinds are `Unexpected`, which gives way to the others; `Unsupported` for a driver, an option, a
 /// filter, a rewrite or a word in place of a value that isn't known, for `template-escape(yes)`,
-/// `reliable(no)`, an operator in place of a comparing word and a macro in the name of a destination's
+/// an operator in place of a comparing word and a macro in the name of a destination's
 /// file; `BadNumber` in place of a number or of yes or no; `DepthOver64` at the parenthesis that opens the
 /// 65th group; `OpenBrace` and `Function` at a template.
 pub fn statement(

@@ -20,10 +20,11 @@ use Rattle.sg_driver.specs.Driver.{driver_kind, options_of}
 use Rattle.sg_driver.specs.Defaults.{IsWithinRange, no_options, with_options}
 use Rattle.sg_source.specs.declared.inlet.SourceDriver.{SourceDriver}
 use Rattle.sg_source.specs.Inlets.{window_by, slots_of, IsSourceDriver}
+use Rattle.sg_run_plan.specs.declared.overflow.OverflowPlan.{OverflowPlan}
 use Rattle.sg_destination.specs.declared.outlet.DestinationDriver.{DestinationDriver}
 use Rattle.sg_destination.specs.declared.buffers.DiskBuffer.{DiskBuffer}
 use Rattle.sg_destination.specs.Templates.{Texts}
-use Rattle.sg_destination.specs.Buffers.{capacity_of, buffer_at, counting_buffer, size_words}
+use Rattle.sg_destination.specs.Buffers.{capacity_of, buffer_at, overflow_at, counting_buffer, reliable_of, unreliable_of, size_words}
 use Rattle.sg_destination.specs.Outlets.{IsDestination}
 use Rattle.sg_plan.specs.Globals.{with_object, with_statement, defaults_of}
 use Rattle.sg_plan.proofs.Ranges.{number-or-within}
@@ -96,13 +97,19 @@ capacity-within buffer = (let p = number-or-within buffer_size (last_value size_
 pub record IsFairDestination (dest : DestinationDriver) : Type 0 where
   pub fifo : (1 ≤ dest.fifo) × (dest.fifo ≤ 1000000)
   pub capacity : (buffer : DiskBuffer) → dest.buffer ≡ Some buffer → (1048576 ≤ buffer.capacity) × (buffer.capacity ≤ 1073741824)
+  pub overflow : (overflow : OverflowPlan) → dest.plan.overflow ≡ Some overflow → overflow.capacity ≤ 1073741824
 
 buffer-within : (call : Call) (counting : Option Call) (buffer : DiskBuffer) → option_map (buffer_at call) counting ≡ Some buffer → (1048576 ≤ buffer.capacity) × (buffer.capacity ≤ 1073741824)
 buffer-within call None buffer e = absurd (none-some buffer e)
 buffer-within call (Some c) buffer e = subst (λ (b : DiskBuffer). (1048576 ≤ b.capacity) × (b.capacity ≤ 1073741824)) (some-same (buffer_at call c) buffer e) (capacity-within c)
 
+overflow-within : (call : Call) (counting : Option Call) (overflow : OverflowPlan) → option_map (overflow_at call) counting ≡ Some overflow → overflow.capacity ≤ 1073741824
+overflow-within call None overflow e = absurd (none-some overflow e)
+overflow-within call (Some c) overflow e = subst (λ (o : OverflowPlan). o.capacity ≤ 1073741824) (some-same (overflow_at call c) overflow e) (capacity-within c).1
+
 pub destination-fair : (defaults : Defaults) (texts : Texts) (call : Call) (dest : DestinationDriver) → AreFair defaults → IsDestination defaults texts call dest → IsFairDestination dest
 destination-fair defaults texts call dest h is = record {
   fifo = subst (λ w. (1 ≤ w) × (w ≤ 1000000)) (sym is.fifo) (number-or-within fifo_size (last_value (codes "log-fifo-size" ∷ []) (options_of call)) defaults.fifo h.1);
-  capacity = λ buffer e. buffer-within call (counting_buffer call) buffer (sym is.buffer ∙ e);
+  capacity = λ buffer e. buffer-within call (reliable_of (counting_buffer call)) buffer (sym is.buffer ∙ e);
+  overflow = λ overflow e. overflow-within call (unreliable_of (counting_buffer call)) overflow (sym is.plan.overflow ∙ e);
 }

@@ -10,6 +10,8 @@ use Rattle.sg_machine.specs.declared.setup.BufferSetup.{BufferSetup}
 use Rattle.sg_machine.specs.declared.setup.DestSetup.{DestSetup}
 use Rattle.sg_source.specs.declared.inlet.SourceDriver.{SourceDriver}
 use Rattle.sg_run_plan.specs.declared.inlet.InletPlan.{InletPlan}
+use Rattle.sg_run_plan.specs.declared.outlet.OutletPlan.{OutletPlan}
+use Rattle.sg_run_plan.specs.declared.overflow.OverflowPlan.{OverflowPlan}
 use Rattle.sg_source.specs.declared.inlet.SourceOrigin.{SourceOrigin}
 use Rattle.sg_source.specs.declared.inlet.SourceOrigin.TheVariants as place
 use Rattle.sg_source.specs.Inlets.{plan_of, slots_at, store_at}
@@ -23,6 +25,10 @@ use Rattle.sg_plan.proofs.StoreNumbers.{no-numbers, listeners-more, file-more, q
 use Rattle.sg_plan.proofs.Fair.{IsFairSource, IsFairDestination}
 use Rattle.sg_list.proofs.ListLemmas.{some-same}
 
+-- the store of the frames that it holds back takes 1 GiB at most
+abbrev pub IsOutletWithin : OutletPlan → Type 0
+IsOutletWithin plan = (overflow : OverflowPlan) → plan.overflow ≡ Some overflow → overflow.capacity ≤ 2 ^ 30
+
 pub record IsSoundPart (parts : PlanParts) : Type 0 where
   pub inlet_setups : length parts.inlet_setups ≡ length parts.inlets
   pub outlet_setups : length parts.outlet_setups ≡ length parts.outlets
@@ -33,6 +39,7 @@ pub record IsSoundPart (parts : PlanParts) : Type 0 where
   pub windows : EachElement HasWindow parts.inlet_setups
   pub rooms : EachElement HasPlannedRoom parts.outlet_setups
   pub each : EachElement (IsInlet (length parts.sources)) parts.inlets
+  pub held : EachElement IsOutletWithin parts.outlets
 
 pub no-parts-sound : IsSoundPart no_parts
 no-parts-sound = record {
@@ -45,6 +52,7 @@ no-parts-sound = record {
   windows = each-none HasWindow;
   rooms = each-none HasPlannedRoom;
   each = each-none (IsInlet 0);
+  held = each-none IsOutletWithin;
 }
 
 -- ---- a source
@@ -108,6 +116,7 @@ source-sound parts owner source fair sound =
           (each-append (IsInlet (length parts.sources + 1)) parts.inlets plans
           (λ i inlet e. inlet-later (length parts.sources) inlet (sound.each i inlet e))
           (each-map (IsInlet (length parts.sources + 1)) (λ slot. plan_of source slot (length parts.sources) (name_in owner)) (range_with_len 0 n) (λ slot. own-inlet (length parts.sources) owner source slot fair)));
+      held = sound.held;
     }
 
 -- ---- a destination
@@ -159,4 +168,5 @@ destination-sound parts owner dest fair sound =
       windows = sound.windows;
       rooms = each-append HasPlannedRoom parts.outlet_setups (setup ∷ []) sound.rooms (each-push HasPlannedRoom setup [] (destination-room (length parts.stores) dest fair) (each-none HasPlannedRoom));
       each = sound.each;
+      held = each-append IsOutletWithin parts.outlets (dest.plan ∷ []) sound.held (each-push IsOutletWithin dest.plan [] fair.overflow (each-none IsOutletWithin));
     }

@@ -132,6 +132,7 @@ parts-within statements drivers h read =
       windows = sound.windows;
       rooms = sound.rooms;
       each = sound.each;
+      held = λ d outlet overflow at is. sound.held d outlet at overflow is;
     }
 
 pub plans_are_within : (statements : List Statement) (plan : Plan) → IsFirstFault statements None → IsPlan statements plan → IsPlanWithin plan

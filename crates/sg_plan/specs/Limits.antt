@@ -5,6 +5,8 @@ use Rattle.sg_machine.specs.declared.setup.SourceSetup.{SourceSetup}
 use Rattle.sg_machine.specs.declared.setup.BufferSetup.{BufferSetup}
 use Rattle.sg_machine.specs.declared.setup.DestSetup.{DestSetup}
 use Rattle.sg_run_plan.specs.declared.inlet.InletPlan.{InletPlan}
+use Rattle.sg_run_plan.specs.declared.outlet.OutletPlan.{OutletPlan}
+use Rattle.sg_run_plan.specs.declared.overflow.OverflowPlan.{OverflowPlan}
 use Rattle.sg_plan.specs.declared.plan.Plan.{Plan}
 use Rattle.sg_plan.specs.Parts.{PlanParts, parts_of}
 
@@ -55,6 +57,12 @@ pub record IsInlet (drivers : ℕ) (inlet : InletPlan) : Type 0 where
   pub some_records : 1 ≤ inlet.fetch
   pub most_records : inlet.fetch ≤ 1000
 
+-- the store of the frames that a destination holds back takes 1 GiB at most
+abbrev pub AreHeldWithin : List OutletPlan → Type 0
+AreHeldWithin outlets = (d : ℕ) (outlet : OutletPlan) (overflow : OverflowPlan)
+    → slice_get outlets d ≡ Some outlet → outlet.overflow ≡ Some overflow
+    → overflow.capacity ≤ 2 ^ 30
+
 pub record ArePartsWithin (parts : PlanParts) : Type 0 where
   pub inlets : length parts.inlets ≤ 128
   pub outlets : length parts.outlets ≤ 64
@@ -70,6 +78,7 @@ pub record ArePartsWithin (parts : PlanParts) : Type 0 where
       → HasPlannedRoom setup
   pub each : (i : ℕ) (inlet : InletPlan) → slice_get parts.inlets i ≡ Some inlet
       → IsInlet (length parts.sources) inlet
+  pub held : AreHeldWithin parts.outlets
 
 abbrev pub IsPlanWithin : Plan → Type 0
 IsPlanWithin plan = ArePartsWithin (parts_of plan)

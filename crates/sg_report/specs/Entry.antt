@@ -15,6 +15,11 @@ entry_line number source end flow length =
     ++ (codes " flow " ++ (flow_text flow
     ++ (codes " length " ++ (decimal length ++ codes "\n")))))))))
 
+-- a frame that is held back: its number, and its length
+abbrev pub frame_line : (number length : ℕ) → List ℕ
+frame_line number length = codes "entry "
+    ++ (decimal number ++ (codes " frame length " ++ (decimal length ++ codes "\n")))
+
 -- behind the entries, how many they are
 abbrev pub entries_line : ℕ → List ℕ
 entries_line count = codes "entries " ++ (decimal count ++ codes "\n")

@@ -1,6 +1,6 @@
 // The lines on the entries of a store.
 ghost use Rattle.std.specs.Prelude.{◌≡◌, ◌++◌, OnOk, OnErr};
-ghost use Rattle.sg_report.specs.Entry.{flow_text, entry_line, entries_line};
+ghost use Rattle.sg_report.specs.Entry.{flow_text, entry_line, frame_line, entries_line};
 
 use std::alloc::{AllocError, Global};
 
@@ -30,6 +30,20 @@ pub fn entry_text(
     let line = format!(in alloc;
         "entry {number} source {source} end {end} flow {flow} length {length}\n"
     )?;
+    out.extend_from_slice(line.as_bytes())
+}
+
+/// Appends the line of a frame that is held back, with its length. Without memory `out` stays as it was.
+pub fn frame_text(
+    alloc: Global,
+    number: u64,
+    length: u64,
+    out: &mut Vec<u8>,
+) -> Result<(), AllocError>
+    ensures ok { OnOk result (out.new.items ≡ out.old.items ++ frame_line number length) }
+    ensures err { OnErr result (out.new.items ≡ out.old.items) }
+{
+    let line = format!(in alloc; "entry {number} frame length {length}\n")?;
     out.extend_from_slice(line.as_bytes())
 }
 

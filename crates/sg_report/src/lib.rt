@@ -10,7 +10,7 @@ mod report;
 mod shown;
 mod store;
 
-pub use entry::{entries_text, entry_text};
+pub use entry::{entries_text, entry_text, frame_text};
 pub use fault::fault_text;
 pub use laws::drivers_are_summed;
 pub use report::tally_text;

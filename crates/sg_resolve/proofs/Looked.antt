@@ -1,13 +1,13 @@
 -- Options that are read and checked.
 use Rattle.std.proofs.Common.{◌≡◌, ℕ, ◌+◌, ◌*◌, List, [], ◌∷◌, ◌++◌, Option, Some, None, refl, sym, ap, ◌∙◌, subst}
 use Rattle.std.specs.Option.{option_map}
-use Rattle.std.specs.Prelude.{◌&&◌, ◌||◌, not, is_none, if◌then◌else◌, codes, false}
+use Rattle.std.specs.Prelude.{◌&&◌, ◌||◌, not, is_none, if◌then◌else◌, codes, true, false}
 use Rattle.sg_parse_expr.specs.declared.tree.Call.{Call}
 use Rattle.sg_parse_obj.specs.Tables.{source, listener, destination, writer, sender, framed, disk, global}
 use Rattle.sg_outfmt.specs.declared.shape.DriverKind.{DriverKind}
 use Rattle.sg_outfmt.specs.declared.shape.DriverKind.TheVariants.{File, Network, Syslog}
 use Rattle.sg_options.specs.Settings.{value_behind, has_flag, last_value}
-use Rattle.sg_options.specs.Stores.{buffer_name}
+use Rattle.sg_options.specs.Stores.{buffer_name, overflow_name}
 use Rattle.sg_options.specs.Values.{text_or, number_or, truth_or, zone_or, zone_or_none, mode_or, facility_or, level_or}
 use Rattle.sg_driver.specs.Defaults.{global_checks, iso_or}
 use Rattle.sg_driver.specs.Driver.{driver_kind, name_of, options_of}
@@ -18,7 +18,7 @@ use Rattle.sg_source.specs.Inlets.{place_by, listener_of, frames_by, window_by, 
 use Rattle.sg_source.specs.Sources.{source_checks, listener_checks, port_words, connection_words}
 use Rattle.sg_source.specs.declared.inlet.SourceOrigin.TheVariants as place
 use Rattle.sg_source.specs.declared.inlet.SourceDriver.{SourceDriver}
-use Rattle.sg_destination.specs.Buffers.{buffer_checks, buffer_words, directory_of, destination_text, capacity_of, whole_of, buffer_of}
+use Rattle.sg_destination.specs.Buffers.{buffer_checks, memory_checks, buffer_words, is_reliable, reliable_of, unreliable_of, directory_of, destination_text, capacity_of, whole_of, size_by, memory_of, buffer_of, overflow_of}
 use Rattle.sg_destination.specs.Destinations.{destination_checks, file_checks, host_checks}
 use Rattle.sg_destination.specs.Outlets.{folders_of, file_of, host_of, spec_by, IsDestination}
 use Rattle.sg_destination.specs.ByPath.{is_template, parts_for, path_parts, with_path}
@@ -78,8 +78,8 @@ pub writer-checked : AreChecked writer file_checks
 unfolding writer file_checks
 writer-checked = (refl, refl)
 
-pub disk-checked : AreCheckedOrSkipped disk buffer_checks
-unfolding disk buffer_checks
+pub disk-checked : AreCheckedOrSkipped disk (buffer_checks ++ memory_checks)
+unfolding disk buffer_checks memory_checks
 disk-checked = (refl, refl)
 
 pub global-checked : AreCheckedOrSkipped global global_checks
@@ -159,7 +159,21 @@ module _ (a b : Call) (h : AreAlikeDrivers (writer_words ++ (sender_words ++ des
   buffer-alike =
       let last = h.same buffer_words refl in
       let to = h.same (codes "port" ∷ []) refl in
-      λ i. option_map (λ buffer. record { store = buffer_name (directory_of buffer) (destination_text (h.kind i) (h.name i) (number_or (value_behind (to i)) ports 0)); capacity = capacity_of buffer; whole = whole_of buffer }) (last i)
+      λ i. option_map (λ buffer. record { store = (if is_reliable buffer then buffer_name else overflow_name) (directory_of buffer) (destination_text (h.kind i) (h.name i) (number_or (value_behind (to i)) ports 0)); capacity = capacity_of buffer; whole = whole_of buffer }) (reliable_of (last i))
+
+  overflow-alike : overflow_of a ≡ overflow_of b
+  overflow-alike =
+      let last = h.same buffer_words refl in
+      let to = h.same (codes "port" ∷ []) refl in
+      λ i. option_map (λ buffer. record {
+        store = record {
+          name = (if is_reliable buffer then buffer_name else overflow_name) (directory_of buffer) (destination_text (h.kind i) (h.name i) (number_or (value_behind (to i)) ports 0));
+          create = true;
+          size = size_by (whole_of buffer) (capacity_of buffer);
+        };
+        capacity = capacity_of buffer;
+        memory = memory_of buffer;
+      }) (unreliable_of (last i))
 
   pub destinations-alike : (texts : Texts) (driver : DestinationDriver) → IsDestination defaults texts a driver → IsDestination defaults texts b driver
   destinations-alike texts driver d =
@@ -178,6 +192,7 @@ module _ (a b : Call) (h : AreAlikeDrivers (writer_words ++ (sender_words ++ des
             iso = d.plan.env.iso ∙ ap (λ o. iso_or (value_behind o) defaults.iso) (h.same (codes "ts-format" ∷ []) refl);
             old = d.plan.env.old;
           };
+          overflow = d.plan.overflow ∙ overflow-alike;
         };
         fifo = d.fifo ∙ ap (λ o. number_or (value_behind o) fifo_size defaults.fifo) (h.same (codes "log-fifo-size" ∷ []) refl);
         buffer = d.buffer ∙ buffer-alike;

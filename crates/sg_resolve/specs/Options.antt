@@ -49,7 +49,7 @@ framed_words = codes "template" ∷ []
 abbrev pub disk_words : Words
 disk_words =
     codes "reliable" ∷ codes "disk-buf-size" ∷ codes "capacity-bytes" ∷ codes "dir"
-    ∷ codes "prealloc" ∷ []
+    ∷ codes "prealloc" ∷ codes "mem-buf-length" ∷ []
 
 abbrev pub global_words : Words
 global_words =

@@ -1,6 +1,6 @@
 // Laws of options. The functions here do nothing: their contracts are laws.
 ghost use Rattle.std.specs.Prelude.{◌++◌};
-ghost use Rattle.sg_destination.specs.Buffers.{buffer_checks};
+ghost use Rattle.sg_destination.specs.Buffers.{buffer_checks, memory_checks};
 ghost use Rattle.sg_destination.specs.Destinations.{destination_checks, file_checks, host_checks};
 ghost use Rattle.sg_destination.specs.Outlets.{IsDestination};
 ghost use Rattle.sg_destination.specs.Templates.{Texts};
@@ -48,6 +48,6 @@ pub fn options_are_checked()
     ensures destination { AreChecked destination destination_checks }
     ensures hosts { AreChecked sender host_checks }
     ensures files { AreChecked writer file_checks }
-    ensures others { AreCheckedOrSkipped disk buffer_checks
+    ensures others { AreCheckedOrSkipped disk (buffer_checks ++ memory_checks)
         × AreCheckedOrSkipped global global_checks }
 {}

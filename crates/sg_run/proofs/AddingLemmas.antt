@@ -1,5 +1,5 @@
 -- What the runs of a configuration add up to.
-use Rattle.std.proofs.Common.{◌≡◌, ℕ, false, Some, None, Option, List, [], ◌∷◌, ◌++◌, map, Result, Ok, Err, refl, ◌∙◌}
+use Rattle.std.proofs.Common.{◌≡◌, ℕ, false, Some, None, Option, List, [], ◌∷◌, ◌++◌, map, Result, Ok, Err, refl, ◌∙◌, subst}
 use Rattle.sg_list.proofs.ListLemmas.{some-same}
 use Rattle.sg_device.specs.Inlet.{InletState}
 use Rattle.sg_device.specs.Outlet.{OutletState}
@@ -10,6 +10,7 @@ use Rattle.sg_config.specs.Means.{Means}
 use Rattle.sg_config.specs.declared.config.Config.{Config}
 use Rattle.sg_loaded.specs.declared.loaded.Unloaded.{Unloaded}
 use Rattle.sg_serve.specs.Counts.{first_fault}
+use Rattle.sg_serve.specs.Run.{RunsWith}
 use Rattle.sg_serve.specs.declared.counts.Counts.{Counts}
 use Rattle.sg_serve.specs.declared.counts.Fault.{Fault}
 use Rattle.sg_serve.specs.declared.counts.Fault.TheVariants.{Sink, Disk, Inlet}
@@ -36,6 +37,7 @@ use Rattle.sg_run.specs.declared.end.End.TheVariants.{Clean, OpenFault, Damage, 
 use Rattle.sg_run.specs.declared.end.Outcome.{Outcome}
 use Rattle.sg_run.proofs.FileLemmas.{reads-files, have-limits}
 use Rattle.sg_run.proofs.PlanLemmas.{runnable}
+use Rattle.sg_run.proofs.RestDueLemmas.{core-clean}
 
 -- Status 0.
 
@@ -57,16 +59,28 @@ record EndsWellBy (ending : PlanEnded) : Type 0 where
   ending_is : ending ≡ Ran Quiet (Some counts)
   well : first_fault counts.sinks counts.stores counts.inlets ≡ None
 
-ran-clean : (ended : Ended) (counts : Counts) (end : End) → end_after ended (first_fault counts.sinks counts.stores counts.inlets) ≡ Some end → end ≡ Clean → EndsWellBy (Ran ended (Some counts))
-ran-clean Quiet counts end h q = let fault = first_fault counts.sinks counts.stores counts.inlets in record { counts = counts; ending_is = refl; well = quiet-none fault (some-same (quiet_end fault) end h ∙ q) }
-ran-clean Spent counts end h q = absurd (let wrong : RoundsSpent ≡ Clean = some-same RoundsSpent end h ∙ q in cc)
-ran-clean NoMemory counts end h q = absurd (let wrong : None ≡ Some end = h in cc)
+-- the core's counts are clean where what is told is
+abbrev IsCoreClean : PlanEnded → Type 0
+IsCoreClean ending = (ended : Ended) (counts : Counts) → ending ≡ Ran ended (Some counts) → first_fault counts.rests.sinks counts.rests.stores counts.inlets ≡ None → first_fault counts.sinks counts.stores counts.inlets ≡ None
 
-ends-well : (plan : RunPlan) (ending : PlanEnded) (result : Result Outcome Unloaded) → TellsOutcome plan ending result → IsClean result → EndsWellBy ending
-ends-well plan (Before e) (Ok outcome) tells clean = absurd (early-unclean e outcome.end tells.0 clean)
-ends-well plan (Ran ended None) (Ok outcome) tells clean = absurd tells
-ends-well plan (Ran ended (Some counts)) (Ok outcome) tells clean = ran-clean ended counts outcome.end tells.0 clean
-ends-well plan ending (Err unloaded) tells clean = absurd clean
+ran-clean : (ended : Ended) (counts : Counts) (end : End) → IsCoreClean (Ran ended (Some counts)) → end_after ended (first_fault counts.rests.sinks counts.rests.stores counts.inlets) ≡ Some end → end ≡ Clean → EndsWellBy (Ran ended (Some counts))
+ran-clean Quiet counts end core h q =
+    let fault = first_fault counts.rests.sinks counts.rests.stores counts.inlets in
+    record { counts = counts; ending_is = refl; well = core Quiet counts refl (quiet-none fault (some-same (quiet_end fault) end h ∙ q)) }
+ran-clean Spent counts end core h q = absurd (let wrong : RoundsSpent ≡ Clean = some-same RoundsSpent end h ∙ q in cc)
+ran-clean NoMemory counts end core h q = absurd (let wrong : None ≡ Some end = h in cc)
+
+ends-well : (plan : RunPlan) (ending : PlanEnded) (result : Result Outcome Unloaded) → IsCoreClean ending → TellsOutcome plan ending result → IsClean result → EndsWellBy ending
+ends-well plan (Before e) (Ok outcome) core tells clean = absurd (early-unclean e outcome.end tells.0 clean)
+ends-well plan (Ran ended None) (Ok outcome) core tells clean = absurd tells
+ends-well plan (Ran ended (Some counts)) (Ok outcome) core tells clean = ran-clean ended counts outcome.end core tells.0 clean
+ends-well plan ending (Err unloaded) core tells clean = absurd clean
+
+core-of : {I O : Type 0} (feed : I → InletState) (drain : O → OutletState) (config : Config) (run : ConfigRun feed drain config) → IsCoreClean (run.ran).ending
+core-of feed drain config run ended counts is none =
+    let ran = run.ran in
+    core-clean feed drain offers_by inlets_by dests_by run.old run.new (planned config run.once) ran.routers run.rounds ran.reached ended counts
+    (subst (λ (e : PlanEnded). RunsWith feed drain offers_by inlets_by dests_by run.old run.new (planned config run.once) ran.routers run.rounds e ran.reached) is ran.runs) none
 
 -- All runs.
 
@@ -90,7 +104,7 @@ pub config-runs-add-up : {I O : Type 0} (feed : I → InletState) (drain : O →
 config-runs-add-up feed drain within add tokens config by are bytes taken passes before runs last means covered follow clean returned =
     let reads = reads-files tokens config false means in
     let can = runnable config false (within tokens config means) in
-    let well = ends-well (planned config last.once) (last.ran).ending last.result (last.ran).tells clean in
+    let well = ends-well (planned config last.once) (last.ran).ending last.result (core-of feed drain config last) (last.ran).tells clean in
     add (planned config false) by bytes taken passes before (map (run_of by are) runs) (plan_run by are last) can reads.0 reads.1 covered (follow-by feed drain config by are bytes before runs last follow)
     (record { counts = well.counts; ending_is = well.ending_is; well = well.well; returned = returned })
 
@@ -121,7 +135,7 @@ module _ {I O : Type 0} (feed : I → InletState) (drain : O → OutletState) (c
 
   returns-well : (run : ConfigRun feed drain config) → ReturnsClean by are run → EndsWell (plan_run by are run)
   returns-well run r =
-      let well = ends-well (planned config run.once) (run.ran).ending run.result (run.ran).tells r.clean in
+      let well = ends-well (planned config run.once) (run.ran).ending run.result (core-of feed drain config run) (run.ran).tells r.clean in
       record { counts = well.counts; ending_is = well.ending_is; well = well.well; returned = r.returned }
 
   all-return-well : (runs : List (ConfigRun feed drain config)) (last : ConfigRun feed drain config) → AllReturnClean by are (runs ++ last ∷ []) → AllEndWell (map (plan_run by are) runs ++ plan_run by are last ∷ [])

@@ -32,6 +32,7 @@ use Rattle.sg_run_plan.specs.declared.plan.RunPlan.{RunPlan}
 use Rattle.sg_one_run.proofs.PreludeLemmas.{get-back}
 use Rattle.sg_one_run.specs.Failing.{AreUsed, FailedStoresCount}
 use Rattle.sg_run.specs.Causes.{FailsThrice, RoseIn, AreCausesDue}
+use Rattle.sg_run.proofs.RestDueLemmas.{rests-due}
 use Rattle.sg_one_run.proofs.FactLemmas.{for-outlet}
 use Rattle.sg_one_run.proofs.FailingLemmas.{marked}
 
@@ -125,11 +126,16 @@ module _ {R I O : Type 0} (feed : I → InletState) (drain : O → OutletState) 
   due-served : (ended : Ended) (counts : Counts) (core : Option CoreRun) → PlanRunHolds feed drain offers inlets dests old.files plan routers rounds reached core (Ran ended (Some counts))
       → RunsWith feed drain offers inlets dests old new plan routers rounds (Ran ended (Some counts)) reached → AreCausesDue plan reached (Ran ended (Some counts))
   due-served ended counts None holds runs = absurd holds
-  due-served ended counts (Some run) (holds, served) runs = record {
-    sinks = sink-due feed drain offers inlets dests plan routers rounds reached run ended counts runnable served;
-    stores = law old new plan routers rounds ended counts reached runnable used runs;
-    inlets = inlet-due feed drain offers inlets dests plan routers rounds reached run ended counts runnable served;
-  }
+  due-served ended counts (Some run) (holds, served) runs =
+      let sinks = sink-due feed drain offers inlets dests plan routers rounds reached run ended counts runnable served in
+      let stores = law old new plan routers rounds ended counts reached runnable used runs in (
+        record {
+          sinks = sinks;
+          stores = stores;
+          inlets = inlet-due feed drain offers inlets dests plan routers rounds reached run ended counts runnable served;
+        },
+        rests-due plan reached counts served.rests sinks stores,
+      )
 
   pub due-by : (ending : PlanEnded) → RunsWith feed drain offers inlets dests old new plan routers rounds ending reached → AreCausesDue plan reached ending
   due-by (Before early) runs = tt

@@ -4,6 +4,7 @@ pub mod LineLemmas
 pub mod CoveringLemmas
 pub mod FileLemmas
 pub mod RunLemmas
+pub mod RestDueLemmas
 pub mod CauseLemmas
 pub mod RestingLemmas
 pub mod BoundingLemmas

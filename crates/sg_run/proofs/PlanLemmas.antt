@@ -1,22 +1,24 @@
 -- The plan of a configuration can be run, by routers that know its inlets and destinations.
-use Rattle.std.proofs.Common.{◌≡◌, ◌≤◌, ℕ, suc, zero, Bool, List, [], ◌∷◌, map, length, slice_get, replicate, Some, None, refl, sym, ap, ◌∙◌, subst, arith}
+use Rattle.std.proofs.Common.{◌≡◌, ◌≤◌, ℕ, suc, zero, Bool, List, [], ◌∷◌, map, length, slice_get, replicate, Option, Some, None, IfSome, ◌^◌, refl, sym, ap, ◌∙◌, subst, arith}
 use Rattle.std.proofs.lemmas.List.{length-map, length-replicate}
 use Rattle.sg_list.proofs.ListLemmas.{some-same, slice_get-map}
 use Rattle.sg_machine.specs.declared.setup.SourceSetup.{SourceSetup}
 use Rattle.sg_core.specs.Opening.{HaveWindows}
 use Rattle.sg_run_plan.specs.declared.inlet.InletPlan.{InletPlan}
 use Rattle.sg_run_plan.specs.declared.outlet.OutletPlan.{OutletPlan}
+use Rattle.sg_run_plan.specs.declared.overflow.OverflowPlan.{OverflowPlan}
 use Rattle.sg_tree.specs.Offers.{Woods, woods_of}
 use Rattle.sg_tree.specs.Readings.{inlet_of}
 use Rattle.sg_table.specs.Forest.{forest_of}
 use Rattle.sg_table.specs.declared.table.Table.{Table}
 use Rattle.sg_pipes.specs.Within.{AreWoodsWithin as StaysWithin}
 use Rattle.sg_pipes.specs.declared.pipes.Pipes.{Pipes}
-use Rattle.sg_plan.specs.Limits.{HasWindow, IsInlet}
+use Rattle.sg_plan.specs.Limits.{HasWindow, IsInlet, AreHeldWithin}
 use Rattle.sg_config.specs.Alike.{IsConfigWithin}
 use Rattle.sg_config.specs.declared.config.Config.{Config}
 use Rattle.sg_loaded.specs.Compiling.{Compiles}
 use Rattle.sg_serve.specs.Devices.{AreFetching}
+use Rattle.sg_serve.specs.Overflows.{AreOverflowsWithin}
 use Rattle.sg_serve.specs.Plan.{IsRunnable, AllKnow}
 use Rattle.sg_one_run.specs.Failing.{AreUsed}
 use Rattle.sg_run.specs.Meaning.{planned, paths_of, paths_in, AreRouters}
@@ -33,6 +35,14 @@ fetching-of drivers [] each = tt
 fetching-of drivers (p ∷ ps) each =
     let is = each 0 p refl in
     (record { limit = is.some_bytes; some = is.some_records; most = is.most_records }, fetching-of drivers ps (λ i inlet at. each (suc i) inlet at))
+
+held-in : (overflow : Option OverflowPlan) → ((o : OverflowPlan) → overflow ≡ Some o → o.capacity ≤ 2 ^ 30) → IfSome overflow (λ (o : OverflowPlan). o.capacity ≤ 2 ^ 30)
+held-in None small = tt
+held-in (Some o) small = small o refl
+
+held-of : (outlets : List OutletPlan) → AreHeldWithin outlets → AreOverflowsWithin outlets
+held-of [] within = tt
+held-of (p ∷ ps) within = (held-in p.overflow (λ o is. within 0 p o refl is), held-of ps (λ d outlet o at is. within (suc d) outlet o at is))
 
 pub runnable : (config : Config) (once : Bool) → IsConfigWithin config → IsRunnable (planned config once)
 runnable config once within = record {
@@ -51,6 +61,7 @@ runnable config once within = record {
   few_outlets = within.outlets;
   few_stores = within.stores;
   fetches = fetching-of within.drivers config.inlets.items within.each;
+  held = held-of config.outlets.items within.held;
 }
 
 pub used : (config : Config) (once : Bool) → IsConfigWithin config → AreUsed (planned config once)

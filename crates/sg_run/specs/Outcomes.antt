@@ -24,9 +24,9 @@ shown_of drivers files counts end = record {
   drivers = drivers;
   files = files;
   bad_frames = counts.bad_frames;
-  held = [];
-  sinks = counts.sinks;
-  stores = counts.stores;
+  held = counts.rests.held;
+  sinks = counts.rests.sinks;
+  stores = counts.rests.stores;
   inlets = counts.inlets;
   status = code_of end;
 }
@@ -41,7 +41,8 @@ EndsBefore early (Some outcome) = (early_end early ≡ Some outcome.end)
 abbrev pub ReportsBy : List ℕ → List Bool → Ended → Counts → Option Outcome → Type 0
 ReportsBy drivers files ended counts None = Unit {0}
 ReportsBy drivers files ended counts (Some outcome) =
-    (end_after ended (first_fault counts.sinks counts.stores counts.inlets) ≡ Some outcome.end)
+    (end_after ended (first_fault counts.rests.sinks counts.rests.stores counts.inlets)
+    ≡ Some outcome.end)
     × (outcome.text.items ≡ report_text counts.tally (shown_of drivers files counts outcome.end))
 
 -- what nothing is known of: there is no outcome, since memory ran out

@@ -1,7 +1,7 @@
 // What runs one after another come to.
 ghost use Rattle.sg_run.specs.Adding.{ConfigRunsAddUp};
 ghost use Rattle.sg_run.specs.Fresh.{NewConfigRunsAddUp, ConfigRunsStayCovered, ConfigRunsTakeOnce};
-ghost use Rattle.sg_serve.specs.Exits.{exit_of};
+ghost use Rattle.sg_serve.specs.Exits.{way_of};
 
 use sg_config::texts_mean_one;
 use sg_many_runs::{
@@ -15,7 +15,7 @@ use sg_world::World;
 /// offer with flow-control was taken at least once, and nothing but offers was taken. The function does
 /// nothing: its contract is a law.
 pub fn config_runs_add_up<W: World>(world: &W, routers: &[Pipes])
-    ensures { ConfigRunsAddUp W.Feed.state (exit_of W.Drain.state W.Paths.state) }
+    ensures { ConfigRunsAddUp W.Feed.state (way_of W.Drain.state W.Paths.state W.Store.state) }
 {
     texts_mean_one();
     plan_runs_add_up(world, routers);
@@ -23,7 +23,7 @@ pub fn config_runs_add_up<W: World>(world: &W, routers: &[Pipes])
 
 /// The same from stores on that are as they were made, of whose files nothing was read.
 pub fn new_config_runs_add_up<W: World>(world: &W, routers: &[Pipes])
-    ensures { NewConfigRunsAddUp W.Feed.state (exit_of W.Drain.state W.Paths.state) }
+    ensures { NewConfigRunsAddUp W.Feed.state (way_of W.Drain.state W.Paths.state W.Store.state) }
 {
     texts_mean_one();
     new_stores_are_covered(routers);
@@ -34,7 +34,8 @@ pub fn new_config_runs_add_up<W: World>(world: &W, routers: &[Pipes])
 /// each record up to a stored position each offer with flow-control was taken in one of them, or stands
 /// in a disk-buffer.
 pub fn config_runs_stay_covered<W: World>(world: &W, routers: &[Pipes])
-    ensures { ConfigRunsStayCovered W.Feed.state (exit_of W.Drain.state W.Paths.state) }
+    ensures { ConfigRunsStayCovered W.Feed.state
+        (way_of W.Drain.state W.Paths.state W.Store.state) }
 {
     texts_mean_one();
     plan_runs_stay_covered(world, routers);
@@ -44,7 +45,7 @@ pub fn config_runs_stay_covered<W: World>(world: &W, routers: &[Pipes])
 /// came in once, and of its offers each destination took each once, but for those that were dropped
 /// without flow-control.
 pub fn config_runs_take_once<W: World>(world: &W, routers: &[Pipes])
-    ensures { ConfigRunsTakeOnce W.Feed.state (exit_of W.Drain.state W.Paths.state) }
+    ensures { ConfigRunsTakeOnce W.Feed.state (way_of W.Drain.state W.Paths.state W.Store.state) }
 {
     texts_mean_one();
     plan_runs_take_once(world, routers);

@@ -7,7 +7,7 @@ use crate::end::{End, Outcome, after_rounds, before_rounds};
 use sg_device::NoMemory;
 use sg_list::Seq;
 use sg_report::{Shown, damaged_text, failed_text, tally_text, unopened_text};
-use sg_serve::{Counts, Device, Early, Ended, PlanEnded};
+use sg_serve::{Counts, Device, Early, Ended, OutletRests, PlanEnded};
 use std::alloc::Global;
 
 /// What the report shows of a plan: for each inlet the number of its driver, and whether it is a file.
@@ -55,16 +55,22 @@ fn report_of(
     let Counts {
         tally,
         bad_frames,
+        sinks: _,
+        stores: _,
+        inlets,
+        rests,
+    } = counts;
+    let OutletRests {
+        held,
         sinks,
         stores,
-        inlets,
-    } = counts;
+    } = rests;
     let ReportRows { drivers, files } = lines;
     let shown = Shown {
         drivers,
         files,
         bad_frames,
-        held: Seq::empty(alloc),
+        held,
         sinks,
         stores,
         inlets,

@@ -6,7 +6,7 @@ ghost use Rattle.sg_run.specs.Covering.{ReadsFiles};
 ghost use Rattle.sg_run.specs.Meaning.{AreRouters};
 ghost use Rattle.sg_run.specs.Outcomes.{AreReportRows};
 ghost use Rattle.sg_run.specs.Run.{RunsBy, RunsConfig, RunsFile};
-ghost use Rattle.sg_serve.specs.Exits.{exit_of};
+ghost use Rattle.sg_serve.specs.Exits.{way_of};
 
 use crate::end::Outcome;
 use crate::planning::{drivers_of, files_of, plan_of, routers_of};
@@ -53,7 +53,7 @@ fn run_by<T: Threads + Wait + Eprint + Sync, W: World>(
     requires routers { AreRouters config routers.items }
     requires lines { AreReportRows config lines }
     requires rounds { (0 < rounds) × (rounds ≤ 2 ^ 36) }
-    ensures { RunsBy W.Feed.state (exit_of W.Drain.state W.Paths.state)
+    ensures { RunsBy W.Feed.state (way_of W.Drain.state W.Paths.state W.Store.state)
         (W.state world.old) (W.state world.new) config once
         rounds result }
 {
@@ -90,7 +90,7 @@ fn run_config<T: Threads + Wait + Eprint + Sync, W: World>(
     requires compiles { Compiles loaded.config loaded.table }
     requires some { 0 < rounds }
     requires rounds { rounds ≤ 2 ^ 36 }
-    ensures { RunsConfig W.Feed.state (exit_of W.Drain.state W.Paths.state)
+    ensures { RunsConfig W.Feed.state (way_of W.Drain.state W.Paths.state W.Store.state)
         (W.state world.old) (W.state world.new)
         loaded.config once rounds result }
 {
@@ -120,7 +120,7 @@ pub fn run_file<T: Threads + Wait + Eprint + Sync, W: World>(
     requires rounds { rounds ≤ 2 ^ 36 }
     // The configuration was run, or why it wasn't; the headline; what is told; the causes of failures; what
     // the end means; how many rounds there are at most; and that a run in which all goes well ends clean.
-    ensures { RunsFile W.Feed.state (exit_of W.Drain.state W.Paths.state)
+    ensures { RunsFile W.Feed.state (way_of W.Drain.state W.Paths.state W.Store.state)
         (W.state world.old) (W.state world.new) file.now
         once rounds result }
 {

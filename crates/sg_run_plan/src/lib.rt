@@ -3,8 +3,10 @@
 
 mod inlet;
 mod outlet;
+mod overflow;
 mod plan;
 
 pub use inlet::InletPlan;
 pub use outlet::OutletPlan;
+pub use overflow::OverflowPlan;
 pub use plan::RunPlan;

@@ -1,5 +1,6 @@
 // An outlet of a run.
 
+use crate::OverflowPlan;
 use sg_outfmt::Shape;
 use sg_outside::OutletSpec;
 use sg_template::Env;
@@ -10,4 +11,6 @@ pub struct OutletPlan {
     pub spec: OutletSpec,
     pub shape: Shape,
     pub env: Env,
+    /// Its disk-buffer, where that isn't reliable.
+    pub overflow: Option<OverflowPlan>,
 }

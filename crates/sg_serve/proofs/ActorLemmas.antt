@@ -45,14 +45,6 @@ pub one-wider : (a b c d : WorldState) → a.outlet_faults ≤ b.outlet_faults �
 one-wider a b c d h p k q (inl rose) = inl (rose-wider a.outlet_faults b.outlet_faults c.outlet_faults d.outlet_faults h rose k)
 one-wider a b c d h p k q (inr rose) = inr (rose-wider a.paths_faults b.paths_faults c.paths_faults d.paths_faults p rose q)
 
-pub outlets-fail : (old mid new : WorldState) (n m : ℕ) (early : Early) → old.outlet_faults ≤ mid.outlet_faults → old.paths_faults ≤ mid.paths_faults → n ≡ m → OutletsFail mid new n early → OutletsFail old new m early
-outlets-fail old mid new n m (OpenFault (Store k)) later later_paths same h = h
-outlets-fail old mid new n m (OpenFault (Inlet k)) later later_paths same h = h
-outlets-fail old mid new n m (OpenFault (Dest k)) later later_paths same h = (h.0 ∙ same, one-wider old mid new new later later_paths (omega arith) (omega arith) h.1)
-outlets-fail old mid new n m (Damage s at) later later_paths same h = h
-outlets-fail old mid new n m (DiskFault s) later later_paths same h = h
-outlets-fail old mid new n m NoMemory later later_paths same h = h
-
 -- Sources.
 
 pub fetching-at : (plans : List InletPlan) (i : ℕ) (plan : InletPlan) → AreFetching plans → slice_get plans i ≡ Some plan → IsFetching plan

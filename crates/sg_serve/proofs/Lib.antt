@@ -1,6 +1,15 @@
 pub mod DeviceLemmas
 pub mod ExitLemmas
+pub mod OutLemmas
 pub mod RewindLemmas
 pub mod ActorLemmas
 pub mod CountLemmas
 pub mod RunLemmas
+pub mod RestLemmas
+pub mod WholeLemmas
+pub mod WayLemmas
+pub mod JoinLemmas
+pub mod FailLemmas
+pub mod FinishLemmas
+pub mod OpenedLemmas
+pub mod ServedLemmas

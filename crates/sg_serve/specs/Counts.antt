@@ -8,6 +8,7 @@ use Rattle.sg_actor.specs.declared.source.SourceActor.{SourceActor}
 use Rattle.sg_actor.specs.declared.turned.GivenUp.{GivenUp}
 use Rattle.sg_actor.specs.declared.turned.GivenUp.TheVariants.{Outlet, Store}
 use Rattle.sg_serve.specs.declared.counts.Counts.{Counts}
+use Rattle.sg_serve.specs.declared.counts.Tallied.{Tallied}
 use Rattle.sg_serve.specs.declared.counts.Fault.{Fault}
 use Rattle.sg_serve.specs.declared.counts.Fault.TheVariants.{Sink, Disk, Inlet as InletFault}
 
@@ -30,9 +31,19 @@ first_fault [] (s ∷ ss) inlets = Some (Disk s)
 first_fault [] [] (i ∷ is) = Some (InletFault i)
 first_fault [] [] [] = None
 
+-- without what is left of the disk-buffers that aren't reliable
+abbrev pub tallied_of : Counts → Tallied
+tallied_of counts = record {
+  tally = counts.tally;
+  bad_frames = counts.bad_frames;
+  sinks = counts.sinks;
+  stores = counts.stores;
+  inlets = counts.inlets;
+}
+
 -- The numbers that the core has come to; for each inlet the number of its bad parts; and those that failed, in order.
 pub record AreCountsOf {R I O : Type 0} (core : CoreState) (sources : List (SourceActor R I))
-    (dests : List (DestActor O)) (counts : Counts) : Type 0 where
+    (dests : List (DestActor O)) (counts : Tallied) : Type 0 where
   pub tally : Tallies core counts.tally
   pub bad_frames : counts.bad_frames ≡ map (λ (a : SourceActor R I). a.bad_frames) sources
   pub sinks : counts.sinks

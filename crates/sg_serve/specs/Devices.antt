@@ -1,9 +1,8 @@
 -- The devices of a plan: what is asked for, and how they are opened and closed.
-use Rattle.std.specs.Prelude.{◌≡◌, ◌≤◌, ◌<◌, ℕ, Bool, true, false, Option, List, [], ◌∷◌, ◌++◌, length, map}
+use Rattle.std.specs.Prelude.{◌≡◌, ◌≤◌, ◌<◌, ℕ, Bool, true, false, Option, Some, None, List, [], ◌∷◌, ◌++◌, length, map}
 use Rattle.sg_device.specs.Disk.{DiskState}
 use Rattle.sg_device.specs.Inlet.{InletState}
 use Rattle.sg_device.specs.Outlet.{OutletState, IsUnusedOutlet}
-use Rattle.sg_device.specs.Paths.{PathsState}
 use Rattle.sg_outside.specs.World.{WorldState, Opened, Ledger, StandsNamed}
 use Rattle.sg_outside.specs.declared.request.InletSpec.{InletSpec}
 use Rattle.sg_outside.specs.declared.request.InletSpec.TheVariants.{File as FileFrom, Slot}
@@ -12,7 +11,7 @@ use Rattle.sg_outside.specs.declared.request.OutletSpec.TheVariants.{File as Fil
 use Rattle.sg_outside.specs.declared.request.StoreSpec.{StoreSpec}
 use Rattle.sg_run_plan.specs.declared.inlet.InletPlan.{InletPlan}
 use Rattle.sg_run_plan.specs.declared.outlet.OutletPlan.{OutletPlan}
-use Rattle.sg_serve.specs.Exits.{Out, outlets_in, openers_in, singles, by_paths, present, AreLeft, AreAsked, AllAreNewOpeners}
+use Rattle.sg_serve.specs.Exits.{Out, inners_in, openers_in, stores_in, singles, by_paths, present, AreLeft, AreAsked, AreFreshOuts}
 
 -- What is asked for.
 
@@ -110,33 +109,60 @@ abbrev pub AllAreNew : List OutletState → Type 0
 AllAreNew [] = Unit {0}
 AllAreNew (drain ∷ drains) = IsUnusedOutlet drain × AllAreNew drains
 
--- each by its ledger: one file or one connection, or an opener of files by their paths
-pub record OpensOutlets (old new : WorldState) (specs : List OutletSpec)
-    (drains : List OutletState) : Type 0 where
-  pub openers : List (Option PathsState)
-  pub each : length openers ≡ length drains
-  pub count : length drains ≤ length specs
-  pub asked : AreAsked specs openers
-  pub are_new : AllAreNew drains
-  pub new_openers : AllAreNewOpeners openers
+-- of these requests for stores, those that were opened
+abbrev pub stores_opened : List (Option StoreSpec) → List (Option DiskState) → List StoreSpec
+stores_opened [] disks = []
+stores_opened (spec ∷ specs) [] = []
+stores_opened (None ∷ specs) (disk ∷ disks) = stores_opened specs disks
+stores_opened (Some spec ∷ specs) (None ∷ disks) = stores_opened specs disks
+stores_opened (Some spec ∷ specs) (Some disk ∷ disks) = spec ∷ stores_opened specs disks
+
+-- the same, each with its state
+abbrev pub opened_stores : List (Option StoreSpec) → List Out → List (Opened StoreSpec DiskState)
+opened_stores specs outs = opened_for (stores_opened specs (map (λ (out : Out). out.store) outs))
+    (stores_in outs)
+
+-- a store is open only where one is asked for
+abbrev pub IsStoreAsked : Option StoreSpec → Option DiskState → Type 0
+IsStoreAsked None store = store ≡ None
+IsStoreAsked (Some spec) store = Unit {0}
+
+abbrev pub AreStoresAsked : List (Option StoreSpec) → List Out → Type 0
+AreStoresAsked specs [] = Unit {0}
+AreStoresAsked [] (out ∷ outs) = ⊥
+AreStoresAsked (spec ∷ specs) (out ∷ outs) = IsStoreAsked spec out.store
+    × AreStoresAsked specs outs
+
+-- Each by its ledger, as the machine handed it over: one file or one connection, or an opener of files by their paths; and the stores of the frames that are held back.
+pub record OpensOuts (old new : WorldState) (specs : List OutletSpec)
+    (stores : List (Option StoreSpec)) (outs : List Out) : Type 0 where
+  pub count : length outs ≤ length specs
+  pub asked : AreAsked specs (openers_in outs)
+  pub stores_asked : AreStoresAsked stores outs
+  pub fresh : AreFreshOuts outs
   pub state : new ≡ record old {
     outlet_faults = new.outlet_faults;
     paths_faults = new.paths_faults;
+    store_faults = new.store_faults;
+    store_names = new.store_names;
     outlets = with_all_opened old.outlets
-        (opened_for (singles specs openers) (singles drains openers));
-    paths = with_all_opened old.paths (opened_for (by_paths specs openers) (present openers));
+        (opened_for (singles specs (openers_in outs)) (singles (inners_in outs) (openers_in outs)));
+    paths = with_all_opened old.paths
+        (opened_for (by_paths specs (openers_in outs)) (present (openers_in outs)));
+    stores = with_all_opened old.stores (opened_stores stores outs);
   }
+  pub named : AreStoresNamed old.store_names (opened_stores stores outs) new.store_names
   pub faults : old.outlet_faults ≤ new.outlet_faults
   pub paths_faults : old.paths_faults ≤ new.paths_faults
+  pub store_faults : old.store_faults ≤ new.store_faults
 
--- these outlets were closed, each by its ledger: those without an opener, and the openers
-abbrev pub ClosesEach : WorldState → WorldState → List OutletState → List (Option PathsState)
-    → Type 0
-ClosesEach old new drains openers = new ≡ record old {
-  outlets = with_all_closed old.outlets (singles drains openers);
-  paths = with_all_closed old.paths (present openers);
+-- these outlets were closed, each by its ledger: those without an opener, the openers, and the stores
+abbrev pub ClosesOuts : WorldState → WorldState → List Out → Type 0
+ClosesOuts old new outs = new ≡ record old {
+  outlets = with_all_closed old.outlets (singles (inners_in outs) (openers_in outs));
+  paths = with_all_closed old.paths (present (openers_in outs));
+  stores = with_all_closed old.stores (stores_in outs);
 }
 
 abbrev pub ClosesOutlets : WorldState → WorldState → List Out → Type 0
-ClosesOutlets old new outs = (openers : List (Option PathsState)) × AreLeft outs openers
-    × ClosesEach old new (outlets_in outs) openers
+ClosesOutlets old new outs = (closed : List Out) × AreLeft outs closed × ClosesOuts old new closed

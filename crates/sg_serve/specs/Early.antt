@@ -27,6 +27,10 @@ OutletsFail old new count (OpenFault (Dest n)) = (n ≡ count) × OneRose old ne
 OutletsFail old new count NoMemory = Unit {0}
 OutletsFail old new count early = ⊥
 
+abbrev pub store_refusal : ℕ → OpenRefusal → Early
+store_refusal s OpenFailed = OpenFault (Store s)
+store_refusal s OpenNoMemory = NoMemory
+
 abbrev pub outlet_refusal : ℕ → OpenRefusal → Early
 outlet_refusal d OpenFailed = OpenFault (Dest d)
 outlet_refusal d OpenNoMemory = NoMemory

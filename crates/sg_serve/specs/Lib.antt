@@ -3,6 +3,8 @@ pub mod Devices
 pub mod Rewinds
 pub mod Early
 pub mod Actors
-pub mod Plan
 pub mod Counts
+pub mod Overflows
+pub mod Opened
+pub mod Plan
 pub mod Run

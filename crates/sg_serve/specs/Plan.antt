@@ -2,6 +2,7 @@
 use Rattle.std.specs.Prelude.{◌≡◌, ◌≤◌, ℕ, Some, List, length, slice_get}
 use Rattle.sg_core.specs.Opening.{NumberStores, HaveWindows, HaveCapacities}
 use Rattle.sg_serve.specs.Devices.{AreFetching}
+use Rattle.sg_serve.specs.Overflows.{AreOverflowsWithin}
 use Rattle.sg_run_plan.specs.declared.plan.RunPlan.{RunPlan}
 
 -- The setup numbers its stores, and has a source for each inlet and a destination for each outlet. There are no more than 128 inlets, 64
@@ -16,6 +17,7 @@ pub record IsRunnable (plan : RunPlan) : Type 0 where
   pub few_outlets : length plan.outlets.items ≤ 64
   pub few_stores : length plan.stores.items ≤ 192
   pub fetches : AreFetching plan.inlets.items
+  pub held : AreOverflowsWithin plan.outlets.items
 
 -- there is a router for each inlet, which knows as many inlets and destinations as the plan has
 pub record AllKnow {R : Type 0} (inlets dests : R → ℕ) (plan : RunPlan)

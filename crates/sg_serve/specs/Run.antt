@@ -1,10 +1,9 @@
 -- What the run of a plan does: which devices it opens and closes, what happens at its flow core, and how it ends.
-use Rattle.std.specs.Prelude.{◌≡◌, ◌⊎◌, ℕ, Bool, Option, Some, None, List, [], ◌∷◌, ◌++◌, length, map, slice_get, IfSome}
+use Rattle.std.specs.Prelude.{◌≡◌, ◌⊎◌, ℕ, ◌+◌, Bool, Option, Some, None, List, [], ◌∷◌, ◌++◌, length, map, slice_get, IfSome}
 use Rattle.sg_device.specs.Disk.{DiskState}
 use Rattle.sg_device.specs.Faults.{Rose}
 use Rattle.sg_device.specs.Inlet.{InletState}
 use Rattle.sg_device.specs.Outlet.{OutletState}
-use Rattle.sg_device.specs.Paths.{PathsState}
 use Rattle.sg_outside.specs.World.{WorldState, Files}
 use Rattle.sg_msg.specs.declared.offer.Offer.{Offer}
 use Rattle.sg_frame.specs.Records.{Record}
@@ -15,6 +14,7 @@ use Rattle.sg_counter.specs.Exchanges.{Exchange, Caller}
 use Rattle.sg_actor.specs.SourceTurns.{actor}
 use Rattle.sg_actor.specs.declared.dest.DestActor.{DestActor}
 use Rattle.sg_actor.specs.declared.source.SourceActor.{SourceActor}
+use Rattle.sg_stable.specs.declared.fault.StoreRefusal.TheVariants.{Damage as StoreDamage, DiskFault as StoreFault}
 use Rattle.sg_stores.specs.Stores.{StoreState}
 use Rattle.sg_stores.specs.Opening.{IsLowestDamaged}
 use Rattle.sg_stores.specs.declared.answers.CoreRefusal.{CoreRefusal}
@@ -24,15 +24,15 @@ use Rattle.sg_standing.specs.States.{CoreState}
 use Rattle.sg_core.specs.Calls.{Serves as CoreServes}
 use Rattle.sg_core.specs.Opening.{AreKinds, IsOpen, IsUnopened}
 use Rattle.sg_run_plan.specs.declared.outlet.OutletPlan.{OutletPlan}
-use Rattle.sg_serve.specs.Early.{OutletsFail}
 use Rattle.sg_turns.specs.Actors.{SourceTook, DestTook}
 use Rattle.sg_turns.specs.Serving.{ServesRounds, ServesWith}
 use Rattle.sg_turns.specs.Turns.{Turn}
 use Rattle.sg_turns.specs.declared.ended.Ended.{Ended}
 use Rattle.sg_serve.specs.Actors.{source_view, dest_view, AreSourcesFor, AreDestsFor, AllBeginAt}
-use Rattle.sg_serve.specs.Counts.{AreCountsOf}
-use Rattle.sg_serve.specs.Devices.{with_all_closed, OpensStores, OpensInlets, OpensOutlets, inlets_asked, outlets_asked}
-use Rattle.sg_serve.specs.Exits.{Out, OneRose, AreLeft, AllLie, outlets_in, singles, present}
+use Rattle.sg_serve.specs.Counts.{tallied_of, AreCountsOf}
+use Rattle.sg_serve.specs.Devices.{with_all_closed, OpensStores, OpensInlets, OpensOuts, inlets_asked, outlets_asked}
+use Rattle.sg_serve.specs.Exits.{Out, OneRose, AreLeft, AllLie, outlets_in, inners_in, openers_in, stores_in, singles, present}
+use Rattle.sg_serve.specs.Overflows.{overflow_specs, AreWaysWhole, AreHeldAsked, AreRests, LastMisses, WaysFail}
 use Rattle.sg_serve.specs.Rewinds.{position_at, places_of, rewinds_from, HasBegun}
 use Rattle.sg_serve.specs.declared.counts.Counts.{Counts}
 use Rattle.sg_serve.specs.declared.ending.Device.TheVariants.{Store, Inlet, Dest}
@@ -61,41 +61,43 @@ pub record Reached : Type 0 where
   pub inlets_closed : List InletState
   pub outlets : List OutletState
   pub outlets_closed : List OutletState
-  -- of each outlet whose files' paths come with the texts, its opener as it was closed
-  pub openers : List (Option PathsState)
+  -- what stands behind each outlet, as it was opened and as it was closed
+  pub outs : List Out
+  pub outs_closed : List Out
   pub core : Option CoreRun
 
 abbrev pub reached_by : List DiskState → List DiskState → List InletState → List InletState
-    → List OutletState → List OutletState → List (Option PathsState) → Option CoreRun → Reached
-reached_by stores stores_closed inlets inlets_closed outlets outlets_closed openers core = record {
+    → List Out → List Out → Option CoreRun → Reached
+reached_by stores stores_closed inlets inlets_closed outs outs_closed core = record {
   stores = stores;
   stores_closed = stores_closed;
   inlets = inlets;
   inlets_closed = inlets_closed;
-  outlets = outlets;
-  outlets_closed = outlets_closed;
-  openers = openers;
+  outlets = outlets_in outs;
+  outlets_closed = outlets_in outs_closed;
+  outs = outs;
+  outs_closed = outs_closed;
   core = core;
 }
 
 -- Devices.
 
 -- these were closed, each kind in this order, and nothing else changed
-abbrev pub ClosesAll : WorldState → WorldState → List DiskState → List InletState → List OutletState
-    → List (Option PathsState) → Type 0
-ClosesAll old new disks feeds drains openers =
+abbrev pub ClosesAll : WorldState → WorldState → List DiskState → List InletState → List Out
+    → Type 0
+ClosesAll old new disks feeds outs =
     new ≡ record old {
-      stores = with_all_closed old.stores disks;
+      stores = with_all_closed old.stores (disks ++ stores_in outs);
       inlets = with_all_closed old.inlets feeds;
-      outlets = with_all_closed old.outlets (singles drains openers);
-      paths = with_all_closed old.paths (present openers);
+      outlets = with_all_closed old.outlets (singles (inners_in outs) (openers_in outs));
+      paths = with_all_closed old.paths (present (openers_in outs));
     }
 
--- the same, with the outlets as they were before; their openers are closed as these
+-- the same, with the outlets as they were before; they are closed as those
 abbrev pub ClosesHeld : WorldState → WorldState → List DiskState → List InletState → List Out
     → Type 0
-ClosesHeld old new disks feeds outs = (openers : List (Option PathsState)) × AreLeft outs openers
-    × ClosesAll old new disks feeds (outlets_in outs) openers
+ClosesHeld old new disks feeds outs = (closed : List Out) × AreLeft outs closed
+    × ClosesAll old new disks feeds closed
 
 -- These devices were opened, in the order of the plan, first stores, then inlets, then outlets, and closed; nothing else of the world
 -- changed but its counts of faults.
@@ -106,11 +108,14 @@ pub record UsesDevices (old new : WorldState) (plan : RunPlan) (reached : Reache
   pub stores : OpensStores old with_stores plan.stores.items reached.stores
   pub inlets : OpensInlets with_stores with_inlets (inlets_asked plan.once plan.inlets.items)
       reached.inlets
-  pub outlets : OpensOutlets with_inlets with_outlets (outlets_asked plan.once plan.outlets.items)
-      reached.outlets
+  pub outlets : OpensOuts with_inlets with_outlets (outlets_asked plan.once plan.outlets.items)
+      (overflow_specs plan.outlets.items) reached.outs
+  pub outlets_are : reached.outlets ≡ outlets_in reached.outs
+  pub closed_are : reached.outlets_closed ≡ outlets_in reached.outs_closed
   pub closes : ClosesAll with_outlets new reached.stores_closed reached.inlets_closed
-      reached.outlets_closed reached.openers
-  pub lie : AllLie reached.outlets_closed reached.openers
+      reached.outs_closed
+  pub lie : AllLie reached.outs_closed
+  pub whole : AreWaysWhole reached.outs_closed
 
 -- The core.
 
@@ -153,7 +158,8 @@ pub record RunsRounds {R I O : Type 0} (feed : I → InletState) (drain : O → 
   pub serves : ServesWith (SourceTook feed offers inlets dests) (DestTook drain) CoreServes
       run.begun run.last sources sources_then dests_first dests_then rounds ended run.made account
       number
-  pub counted : IfSome counts (AreCountsOf run.last sources_then dests_then)
+  pub counted : IfSome counts
+      (λ counts. AreCountsOf run.last sources_then dests_then (tallied_of counts))
   pub same_routers : map (λ (a : SourceActor R I). a.router) sources ≡ routers
   pub are_sources : AreSourcesFor plan.inlets.items plan.setup.sources
       (map (λ (a : SourceActor R I). source_view a.spec
@@ -186,6 +192,10 @@ pub record IsServed {R I O : Type 0} (feed : I → InletState) (drain : O → Ou
       reached.inlets_closed reached.outlets reached.outlets_closed ended counts
   pub all_inlets : length reached.inlets ≡ length plan.inlets.items
   pub all_outlets : length reached.outlets ≡ length plan.outlets.items
+  -- frames are held back where the plan asks for it, and what is left of them is told
+  pub held : AreHeldAsked plan.outlets.items reached.outs
+  pub rests : IfSome counts (AreRests plan.once (length plan.stores.items) plan.outlets.items
+      reached.outs_closed)
 
 -- with a core
 pub record HoldsRun (files : Option Files) (plan : RunPlan) (reached : Reached)
@@ -230,15 +240,19 @@ pub record IsDamagedIn (setup : Setup) (disks : List DiskState) (s at : ℕ) : T
 
 -- Why the rounds didn't begin: each device by its number, behind those that were opened. Lack of memory is free.
 abbrev pub HasEarlyCause : WorldState → WorldState → RunPlan → Reached → Early → Type 0
-HasEarlyCause old new plan reached (OpenFault (Store n)) = (n ≡ length reached.stores)
-    × (reached.core ≡ None) × Rose old.store_faults new.store_faults
+HasEarlyCause old new plan reached (OpenFault (Store n)) =
+    (((n ≡ length reached.stores) × (reached.core ≡ None))
+    ⊎ (n ≡ length plan.stores.items + length (stores_in reached.outs)))
+    × Rose old.store_faults new.store_faults
 HasEarlyCause old new plan reached (OpenFault (Inlet n)) = (n ≡ length reached.inlets)
     × Rose old.inlet_faults new.inlet_faults
 HasEarlyCause old new plan reached (OpenFault (Dest n)) =
     (n ≡ length reached.outlets) × OneRose old new
-HasEarlyCause old new plan reached (Damage s at) = (reached.core ≡ None)
-    × IsDamagedIn plan.setup reached.stores s at
+HasEarlyCause old new plan reached (Damage s at) =
+    ((reached.core ≡ None) × IsDamagedIn plan.setup reached.stores s at)
+    ⊎ LastMisses (length plan.stores.items) reached.outs reached.outs_closed s (StoreDamage at)
 HasEarlyCause old new plan reached (DiskFault s) = RoseAt reached.stores reached.stores_closed s
+    ⊎ LastMisses (length plan.stores.items) reached.outs reached.outs_closed s StoreFault
 HasEarlyCause old new plan reached NoMemory = Unit {0}
 
 abbrev pub HasEnding : WorldState → WorldState → RunPlan → Reached → PlanEnded → Type 0
@@ -275,56 +289,58 @@ pub record RunsOver {R I O : Type 0} (feed : I → InletState) (drain : O → Ou
     (offers : R → ℕ → Record → List Offer → Type 0) (inlets dests : R → ℕ)
     (old new : WorldState) (plan : RunPlan) (routers : List R) (rounds : ℕ)
     (stores stores_closed : List DiskState) (inlets_closed : List InletState)
-    (outlets_closed : List OutletState) (openers : List (Option PathsState))
-    (ending : PlanEnded) : Type 0 where
+    (outs_closed : List Out) (ending : PlanEnded) : Type 0 where
   pub inlets_opened : List InletState
-  pub outlets_opened : List OutletState
+  pub outs : List Out
   pub core : Option CoreRun
   pub between : WorldState
   pub opens_inlets : OpensInlets old between (inlets_asked plan.once plan.inlets.items)
       inlets_opened
-  pub opens_outlets : OpensOutlets between new (outlets_asked plan.once plan.outlets.items)
-      outlets_opened
+  pub opens_outlets : OpensOuts between new (outlets_asked plan.once plan.outlets.items)
+      (overflow_specs plan.outlets.items) outs
+  pub whole : AreWaysWhole outs_closed
   pub holds : PlanRunHolds feed drain offers inlets dests old.files plan routers rounds
-      (reached_by stores stores_closed inlets_opened inlets_closed outlets_opened outlets_closed
-      openers core) core ending
+      (reached_by stores stores_closed inlets_opened inlets_closed outs outs_closed core) core
+      ending
   pub ends : HasEnding old new plan (reached_by stores stores_closed inlets_opened inlets_closed
-      outlets_opened outlets_closed openers core) ending
+      outs outs_closed core) ending
 
 -- The rounds were run over these destinations, those of the plan.
 pub record ServesDests {R I O : Type 0} (feed : I → InletState) (drain : O → OutletState)
     (offers : R → ℕ → Record → List Offer → Type 0) (inlets dests : R → ℕ)
     (once : Bool) (plans : List OutletPlan) (rounds : ℕ) (begun last : CoreState)
     (sources : List (SourceActor R I)) (inlets_closed : List InletState)
-    (opened closed : List OutletState) (ended : Ended) (counts : Option Counts) : Type 0 where
+    (opened closed : List Out) (ended : Ended) (counts : Option Counts) : Type 0 where
   pub sources_then : List (SourceActor R I)
   pub dests_first : List (DestActor O)
   pub dests_then : List (DestActor O)
   pub serves : ServesRounds (SourceTook feed offers inlets dests) (DestTook drain) CoreServes begun
       last
       sources sources_then dests_first dests_then rounds ended
-  pub counted : IfSome counts (AreCountsOf last sources_then dests_then)
+  pub counted : IfSome counts (λ counts.
+      AreCountsOf last sources_then dests_then (tallied_of counts))
   pub are_dests : AreDestsFor once plans
       (map (λ (a : DestActor O). dest_view a.spec a.outage (drain a.outlet)) dests_first)
   pub all : length opened ≡ length plans
   pub closes_inlets : map (λ (a : SourceActor R I). feed a.inlet) sources_then ≡ inlets_closed
-  pub outlets_opened : map (λ (a : DestActor O). drain a.outlet) dests_first ≡ opened
-  pub outlets_closed : map (λ (a : DestActor O). drain a.outlet) dests_then ≡ closed
+  pub outlets_opened : map (λ (a : DestActor O). drain a.outlet) dests_first ≡ outlets_in opened
+  pub outlets_closed : map (λ (a : DestActor O). drain a.outlet) dests_then ≡ outlets_in closed
+  pub held : AreHeldAsked plans opened
+  pub rests : IfSome counts (AreRests once (length begun.stores) plans closed)
 
 -- The rounds don't begin, and all stays.
 pub record MissesDests {R I : Type 0} (feed : I → InletState) (old new : WorldState)
     (begun last : CoreState) (sources : List (SourceActor R I)) (inlets_closed : List InletState)
-    (opened closed : List OutletState) (early : Early) : Type 0 where
+    (opened closed : List Out) (early : Early) : Type 0 where
   pub stays : last ≡ begun
   pub closes_inlets : inlets_closed ≡ map (λ (a : SourceActor R I). feed a.inlet) sources
-  pub closes_outlets : closed ≡ opened
-  pub cause : OutletsFail old new (length opened) early
+  pub closes_outlets : outlets_in closed ≡ outlets_in opened
+  pub cause : WaysFail old new (length begun.stores) opened closed early
 
 abbrev pub DestsEnd : {R I O : Type 0} → (I → InletState) → (O → OutletState)
     → (R → ℕ → Record → List Offer → Type 0) → (R → ℕ) → (R → ℕ) → WorldState → WorldState → Bool
     → List OutletPlan → ℕ → CoreState → CoreState
-    → List (SourceActor R I) → List InletState → List OutletState → List OutletState → PlanEnded
-    → Type 0
+    → List (SourceActor R I) → List InletState → List Out → List Out → PlanEnded → Type 0
 DestsEnd feed drain offers inlets dests old new once plans rounds begun last sources inlets_closed
     opened closed (Before early) =
     MissesDests feed old new begun last sources inlets_closed opened closed early
@@ -338,11 +354,12 @@ pub record RunsDests {R I O : Type 0} (feed : I → InletState) (drain : O → O
     (offers : R → ℕ → Record → List Offer → Type 0) (inlets dests : R → ℕ)
     (old new : WorldState) (once : Bool) (plans : List OutletPlan) (rounds : ℕ) (begun : CoreState)
     (sources : List (SourceActor R I))
-    (stores_closed : List DiskState) (inlets_closed : List InletState)
-    (outlets_closed : List OutletState) (ending : PlanEnded) : Type 0 where
-  pub outlets_opened : List OutletState
-  pub opens : OpensOutlets old new (outlets_asked once plans) outlets_opened
+    (stores_closed : List DiskState) (inlets_closed : List InletState) (outs : List Out)
+    (ending : PlanEnded) : Type 0 where
+  pub outs_opened : List Out
+  pub opens : OpensOuts old new (outlets_asked once plans) (overflow_specs plans) outs_opened
+  pub whole : AreWaysWhole outs
   pub last : CoreState
   pub closes_stores : stores_closed ≡ map (λ (store : StoreState). store.disk) last.stores
   pub ends : DestsEnd feed drain offers inlets dests old new once plans rounds begun last sources
-      inlets_closed outlets_opened outlets_closed ending
+      inlets_closed outs_opened outs ending

@@ -1,7 +1,8 @@
 // What a run has come to.
 ghost use Rattle.std.specs.Prelude.{◌≡◌, ◌<◌, ◌^◌, ◌++◌, ◌∷◌, [], map, length, IfOk, OnOk};
-ghost use Rattle.sg_serve.specs.Counts.{gave_up_outlet, numbers_from, first_fault, AreCountsOf};
+ghost use Rattle.sg_serve.specs.Counts.{gave_up_outlet, numbers_from, first_fault, tallied_of, AreCountsOf};
 
+use crate::OutletRests;
 use sg_actor::{DestActor, GivenUp, SourceActor};
 use sg_core::Core;
 use sg_device::{Disk, Inlet, NoMemory, Outlet};
@@ -19,16 +20,19 @@ pub struct Counts {
     pub bad_frames: Seq<u64>,
     /// The destinations that were given up as their outlets failed, in ascending order.
     pub sinks: Seq<u32>,
-    /// The stores that have failed, in ascending order.
+    /// The core's stores that have failed, in ascending order.
     pub stores: Seq<u32>,
     /// The inlets with a failed pull, in ascending order.
     pub inlets: Seq<u32>,
+    /// What is left of the disk-buffers that aren't reliable, and the destinations and stores that failed
+    /// with them.
+    pub rests: OutletRests,
 }
 
 /// What failed in a run.
 #[derive(Clone, Copy, PartialEq, Eq, Drop)]
 pub enum Fault {
-    /// A destination was given up, as its outlet failed.
+    /// A destination was given up, as its outlet failed, or its outlet didn't take what was held.
     Sink(u32),
     /// A store failed.
     Disk(u32),
@@ -40,13 +44,14 @@ impl Counts {
     /// What failed, where anything did: a destination before a store, and that before an inlet, the
     /// lowest of its kind.
     pub fn fault(&self) -> Option<Fault>
-        ensures { result ≡ first_fault self.now.sinks self.now.stores self.now.inlets }
+        ensures { result
+            ≡ first_fault self.now.rests.sinks self.now.rests.stores self.now.inlets }
     {
-        if !self.sinks.is_empty() {
-            return Some(Fault::Sink(*self.sinks.at(0)));
+        if !self.rests.sinks.is_empty() {
+            return Some(Fault::Sink(*self.rests.sinks.at(0)));
         }
-        if !self.stores.is_empty() {
-            return Some(Fault::Disk(*self.stores.at(0)));
+        if !self.rests.stores.is_empty() {
+            return Some(Fault::Disk(*self.rests.stores.at(0)));
         }
         if !self.inlets.is_empty() {
             return Some(Fault::Inlet(*self.inlets.at(0)));
@@ -69,7 +74,7 @@ fn bad_frames<R: Router + Drop, I: Inlet>(
 }
 
 // Notes the number of one that is marked.
-fn note(numbers: &mut Seq<u32>, number: u32, marked: bool) -> Result<(), NoMemory>
+pub(crate) fn note(numbers: &mut Seq<u32>, number: u32, marked: bool) -> Result<(), NoMemory>
     ensures { OnOk result (numbers.new ≡ numbers.old ++ numbers_from number (marked ∷ [])) }
 {
     if marked {
@@ -127,6 +132,41 @@ fn failed_stores<D: Disk>(alloc: Global, core: &Core<D>, count: u32) -> Result<S
     Ok(numbers)
 }
 
+/// What the core and what took the turns of its sources and destinations have come to, before their
+/// outlets are finished.
+#[derive(Drop)]
+pub(crate) struct Tallied {
+    pub(crate) tally: Tally,
+    pub(crate) bad_frames: Seq<u64>,
+    pub(crate) sinks: Seq<u32>,
+    pub(crate) stores: Seq<u32>,
+    pub(crate) inlets: Seq<u32>,
+}
+
+impl Tallied {
+    /// With what is left.
+    pub(crate) fn with_rests(self, rests: OutletRests) -> Counts
+        ensures rests { result.rests ≡ rests }
+        ensures counts { tallied_of result ≡ self }
+    {
+        let Tallied {
+            tally,
+            bad_frames,
+            sinks,
+            stores,
+            inlets,
+        } = self;
+        Counts {
+            tally,
+            bad_frames,
+            sinks,
+            stores,
+            inlets,
+            rests,
+        }
+    }
+}
+
 /// What the core and what took the turns of its sources and destinations have come to. The core has so
 /// many stores.
 pub(crate) fn count_all<D: Disk, R: Router + Drop, I: Inlet, O: Outlet>(
@@ -135,13 +175,13 @@ pub(crate) fn count_all<D: Disk, R: Router + Drop, I: Inlet, O: Outlet>(
     stores: u32,
     sources: &[SourceActor<R, I>],
     dests: &[DestActor<O>],
-) -> Result<Counts, NoMemory>
+) -> Result<Tallied, NoMemory>
     requires stores { stores ≡ length core.now.stores }
     requires few_sources { length sources.now < 2 ^ 32 }
     requires few_dests { length dests.now < 2 ^ 32 }
     ensures { IfOk result (AreCountsOf core.now sources.now dests.now) }
 {
-    Ok(Counts {
+    Ok(Tallied {
         tally: core.tally(alloc)?,
         bad_frames: bad_frames(alloc, sources)?,
         sinks: failed_sinks(alloc, dests)?,

@@ -1,9 +1,10 @@
 // The way out of a destination.
 ghost use Rattle.std.specs.Prelude.{MatchResult};
 ghost use Rattle.sg_outside.specs.World.{IsByPath};
-ghost use Rattle.sg_serve.specs.Exits.{out_of, OpensExit, MissesExit, ClosesExit};
+ghost use Rattle.sg_serve.specs.Exits.{OpensExit, MissesExit, ClosesExit};
 
-use sg_device::{Frames, OpenRefusal, Opener, Outlet, OutletFault, Reopened, SendRefusal};
+use sg_by_path::SendsByPath;
+use sg_device::{Frames, OpenRefusal, Outlet, OutletFault, Reopened, SendRefusal};
 use sg_dynfile::DynFile;
 use sg_outside::OutletSpec;
 use sg_world::World;
@@ -13,12 +14,12 @@ use std::alloc::Global;
 const HELD: u32 = 128;
 
 /// One file or one connection, or files whose paths come with their texts.
-pub enum Exit<D: Outlet, P: Opener> {
+pub enum Exit<D: Outlet, P: SendsByPath> {
     One(D),
     ByPath(DynFile<P>),
 }
 
-impl<D: Outlet, P: Opener> Outlet for Exit<D, P> {
+impl<D: Outlet, P: SendsByPath> Outlet for Exit<D, P> {
     ghost use Rattle.sg_serve.specs.Exits.{exit_of};
 
     ghost state = { exit_of D.state P.state };
@@ -60,8 +61,8 @@ fn open_one<W: World>(
 ) -> Result<Exit<W::Drain, W::Paths>, OpenRefusal>
     requires path { IsByPath spec.now → ⊥ }
     ensures { MatchResult result
-        (λ exit. OpensExit (W.state world.old) (W.state world.new) spec.now
-        (out_of W.Drain.state W.Paths.state exit))
+        (λ exit. OpensExit W.Drain.state W.Paths.state (W.state world.old) (W.state world.new)
+        spec.now exit)
         (λ refusal. MissesExit (W.state world.old) (W.state world.new) refusal) }
 {
     match world.open_outlet(alloc, spec) {
@@ -78,8 +79,8 @@ fn open_files<W: World>(
 ) -> Result<Exit<W::Drain, W::Paths>, OpenRefusal>
     requires path { IsByPath spec.now }
     ensures { MatchResult result
-        (λ exit. OpensExit (W.state world.old) (W.state world.new) spec.now
-        (out_of W.Drain.state W.Paths.state exit))
+        (λ exit. OpensExit W.Drain.state W.Paths.state (W.state world.old) (W.state world.new)
+        spec.now exit)
         (λ refusal. MissesExit (W.state world.old) (W.state world.new) refusal) }
 {
     match world.open_paths(alloc, spec) {
@@ -95,8 +96,7 @@ pub(crate) fn open_exit<W: World>(
     world: &mut W,
 ) -> Result<Exit<W::Drain, W::Paths>, OpenRefusal>
     ensures { MatchResult result
-        (λ exit. OpensExit (W.state world.old) (W.state world.new) spec.now
-        (out_of W.Drain.state W.Paths.state exit))
+        (OpensExit W.Drain.state W.Paths.state (W.state world.old) (W.state world.new) spec.now)
         (λ refusal. MissesExit (W.state world.old) (W.state world.new) refusal) }
 {
     match spec {
@@ -108,8 +108,7 @@ pub(crate) fn open_exit<W: World>(
 
 /// Closes it, and the files that are open.
 pub(crate) fn close_exit<W: World>(exit: Exit<W::Drain, W::Paths>, world: &mut W)
-    ensures { ClosesExit (W.state world.old) (W.state world.new)
-        (out_of W.Drain.state W.Paths.state exit) }
+    ensures { ClosesExit W.Drain.state W.Paths.state (W.state world.old) (W.state world.new) exit }
 {
     match exit {
         Exit::One(drain) => world.close_outlet(drain),

@@ -16,7 +16,7 @@ use Rattle.sg_spool.specs.declared.answers.Walked.TheVariants.{Item}
 use Rattle.sg_spool.specs.declared.places.Places.{Places}
 use Rattle.sg_spool.specs.declared.rows.Rows.{Rows}
 use Rattle.sg_spool.proofs.Remaining.{remains_of}
-use Rattle.sg_spooled.specs.Entries.{SpooledRow, IsStoredEntry, IsNoEntry, AreRowsStored, payloads_of, row_line, row_lines, IsListBegun, IsFirstBadEntry}
+use Rattle.sg_spooled.specs.Entries.{SpooledRow, IsPayloadRow, IsNoEntry, AreRowsStored, payloads_of, row_line, row_lines, IsListBegun, IsFirstBadEntry}
 use Rattle.sg_output.specs.Saying.{OnlySays, SaidSome}
 use Rattle.sg_spooled.specs.Walking.{AppendsRow, IsHere, IsNoneHere, ListsEntry, SaysSome, UnlessUnsaid, WalkEnds, WalksBy, Walks}
 use Rattle.sg_spooled.specs.declared.unlisted.Unlisted.{Unlisted}
@@ -122,7 +122,7 @@ pub entry-listed : {D : Type 0} (state : D → DiskState) (old new : View D) (ga
     → WhereTold (content (state old.disk)) (λ bytes. (entries : Entries) → Remains bytes old.rows.list.jump gate entries old.rows.list.end → IsNextOf old gate bytes entries walked)
     → ListsEntry state old new gate number text text' (Ok next)
 entry-listed state old new gate number next before now payload walked bytes' text text' good item same appends is answer follows =
-    let (kept, (stored, more)) : (kept : Kept) × (IsStoredEntry kept payload.items × (text' ≡ text ++ row_line number (record { kept = kept; payload = payload.items }))) =
+    let (kept, (stored, more)) : (kept : Option Kept) × (IsPayloadRow kept payload.items × (text' ≡ text ++ row_line number (record { kept = kept; payload = payload.items }))) =
     subst (λ (p : List ℕ). AppendsRow number p text text' true) same (subst (λ (b : Bool). AppendsRow number bytes' text text' b) is appends) in
     let shut = (subst (λ (w : Walked). IsWalked old new gate before now w) item answer).2 in (
       record { kept = kept; payload = payload.items },

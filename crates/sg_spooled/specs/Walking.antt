@@ -1,5 +1,5 @@
 -- The walk over a store's entries, and what is said on the way.
-use Rattle.std.specs.Prelude.{◌≡◌, ◌⊎◌, ◌≤◌, ℕ, ◌+◌, Bool, true, false, List, [], ◌∷◌, ◌++◌, length, codes, Result, Ok, Err}
+use Rattle.std.specs.Prelude.{◌≡◌, ◌⊎◌, ◌≤◌, ℕ, ◌+◌, Bool, true, false, Option, Some, None, List, [], ◌∷◌, ◌++◌, length, codes, Result, Ok, Err}
 use Rattle.sg_codec.specs.declared.kept.Kept.{Kept}
 use Rattle.sg_device.specs.Disk.{DiskState, content, WhereTold}
 use Rattle.sg_device.specs.Faults.{Rose}
@@ -11,13 +11,21 @@ use Rattle.sg_spool.specs.Places.{Remains, gate_past}
 use Rattle.sg_spool.specs.Ring.{Entries, IsList}
 use Rattle.sg_spool.specs.View.{View}
 use Rattle.sg_spool.specs.declared.places.Places.{Places}
-use Rattle.sg_spooled.specs.Entries.{SpooledRow, IsStoredEntry, IsNoEntry, AreRowsStored, payloads_of, row_line, row_lines, IsListBegun, IsFirstBadEntry}
+use Rattle.sg_spooled.specs.Entries.{SpooledRow, IsPayloadRow, IsNoEntry, AreRowsStored, payloads_of, row_line, row_lines, IsListBegun, IsFirstBadEntry}
+use Rattle.sg_spooled.specs.declared.payload.SpooledPayload.{SpooledPayload}
+use Rattle.sg_spooled.specs.declared.payload.SpooledPayload.TheVariants.{Entry, Frame, Other}
 use Rattle.sg_spooled.specs.declared.unlisted.Unlisted.{Unlisted}
 use Rattle.sg_spooled.specs.declared.unlisted.Unlisted.TheVariants.{NotOpened, Damage, DiskFault, SayFault, NoMemory}
 
+-- what the payload is
+abbrev pub IsRead : List ℕ → SpooledPayload → Type 0
+IsRead payload (Entry kept) = IsPayloadRow (Some kept) payload
+IsRead payload Frame = IsPayloadRow None payload
+IsRead payload Other = IsNoEntry payload
+
 -- a line was appended where the payload is an entry, and else nothing
 abbrev pub AppendsRow : ℕ → List ℕ → (text text' : List ℕ) → Bool → Type 0
-AppendsRow number payload text text' true = (kept : Kept) × (IsStoredEntry kept payload
+AppendsRow number payload text text' true = (kept : Option Kept) × (IsPayloadRow kept payload
     × (text' ≡ text ++ row_line number (record { kept = kept; payload = payload })))
 AppendsRow number payload text text' false = IsNoEntry payload × (text' ≡ text)
 
@@ -40,8 +48,7 @@ IsNoneHere list bytes gate = (entries : Entries) → Remains bytes list.jump gat
 abbrev pub ListsEntry : {D : Type 0} → (D → DiskState) → View D → View D → (gate number : ℕ)
     → (text text' : List ℕ) → Result ℕ Unlisted → Type 0
 ListsEntry state old new gate number text text' (Ok next) =
-    (row : SpooledRow) × (IsStoredEntry row.kept row.payload
-    × ((text' ≡ text ++ row_line number row)
+    (row : SpooledRow) × (IsPayloadRow row.kept row.payload × ((text' ≡ text ++ row_line number row)
     × ((new.closed ≡ false)
     × WhereTold (content (state old.disk)) (λ bytes. IsHere old.rows.list bytes gate row next))))
 ListsEntry state old new gate number text text' (Err (Damage at)) =

@@ -8,9 +8,9 @@ ghost use Rattle.sg_spooled.specs.Walking.{AppendsRow, ListsEntry};
 
 use crate::Unlisted;
 use crate::about::append_about;
-use crate::payload::read_payload;
+use crate::payload::{SpooledPayload, read_payload};
 use sg_device::{Disk, NoMemory};
-use sg_report::entry_text;
+use sg_report::{entry_text, frame_text};
 use sg_spool::{Spool, Walked};
 use std::alloc::Global;
 
@@ -24,9 +24,9 @@ fn append_entry(
 ) -> Result<bool, NoMemory>
     ensures { IfOk result (AppendsRow number payload.now text.old.items text.new.items) }
 {
+    let length = payload.len() as u64;
     match read_payload(alloc, payload)? {
-        Some(kept) => {
-            let length = payload.len() as u64;
+        SpooledPayload::Entry(kept) => {
             entry_text(
                 alloc,
                 number,
@@ -39,7 +39,11 @@ fn append_entry(
             append_about(alloc, number, &kept.message, about)?;
             Ok(true)
         }
-        None => Ok(false),
+        SpooledPayload::Frame => {
+            frame_text(alloc, number, length.saturating_sub(1), text)?;
+            Ok(true)
+        }
+        SpooledPayload::Other => Ok(false),
     }
 }
 

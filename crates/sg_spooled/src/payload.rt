@@ -1,6 +1,7 @@
 // The entry that a payload spells.
-ghost use Rattle.std.specs.Prelude.{◌≡◌, IfOk, MatchOption};
-ghost use Rattle.sg_spooled.specs.Entries.{IsStoredEntry, IsNoEntry, is_beyond};
+ghost use Rattle.std.specs.Prelude.{◌≡◌, IfOk};
+ghost use Rattle.sg_spooled.specs.Entries.{is_beyond};
+ghost use Rattle.sg_spooled.specs.Walking.{IsRead};
 
 use sg_codec::{CodecRefusal, Kept, decode};
 use sg_device::NoMemory;
@@ -13,18 +14,30 @@ fn is_beyond(payload: &[u8]) -> bool
     matches!(payload, [1, ..]) && payload.len() > 1 << 30
 }
 
-// The entry that a payload in a store spells, where it is one.
-pub(crate) fn read_payload(alloc: Global, payload: &[u8]) -> Result<Option<Kept>, NoMemory>
-    ensures { IfOk result
-        (λ read. MatchOption read (IsNoEntry payload.now)
-        (λ kept. IsStoredEntry kept payload.now)) }
+/// What a payload in a store is.
+#[derive(Drop)]
+pub(crate) enum SpooledPayload {
+    /// An entry of a flow core.
+    Entry(Kept),
+    /// A frame that is held back.
+    Frame,
+    /// Neither.
+    Other,
+}
+
+// What a payload in a store is.
+pub(crate) fn read_payload(alloc: Global, payload: &[u8]) -> Result<SpooledPayload, NoMemory>
+    ensures { IfOk result (IsRead payload.now) }
 {
+    if matches!(payload, [3, ..]) {
+        return Ok(SpooledPayload::Frame);
+    }
     if is_beyond(payload) {
-        return Ok(None);
+        return Ok(SpooledPayload::Other);
     }
     match decode(alloc, payload) {
-        Ok(kept) => Ok(Some(kept)),
-        Err(CodecRefusal::Damage(_)) => Ok(None),
+        Ok(kept) => Ok(SpooledPayload::Entry(kept)),
+        Err(CodecRefusal::Damage(_)) => Ok(SpooledPayload::Other),
         Err(CodecRefusal::NoMemory) => Err(AllocError),
     }
 }

@@ -3,7 +3,7 @@ ghost use Rattle.std.specs.Prelude.{◌≡◌, ◌≤◌};
 
 use crate::Unlisted;
 use crate::about::append_message;
-use crate::payload::read_payload;
+use crate::payload::{SpooledPayload, read_payload};
 use sg_device::{Disk, NoMemory};
 use sg_msg::Message;
 use sg_world::World;
@@ -85,7 +85,7 @@ fn line_of(alloc: Global, gate: u64, message: &Message) -> Result<Vec<u8>, NoMem
 fn tell_payload<W: World>(alloc: Global, gate: u64, payload: &[u8], world: &mut W) -> bool
     ensures { W.state world.new ≡ W.state world.old }
 {
-    let Ok(Some(kept)) = read_payload(alloc, payload) else {
+    let Ok(SpooledPayload::Entry(kept)) = read_payload(alloc, payload) else {
         return false;
     };
     if let Ok(line) = line_of(alloc, gate, &kept.message) {

@@ -15,6 +15,7 @@ fn push_target(targets: &mut Vec<SentForm>, outlet: OutletPlan) -> Result<(), No
         spec: _,
         shape,
         env,
+        overflow: _,
     } = outlet;
     targets.push(SentForm { shape, env })?;
     Ok(())

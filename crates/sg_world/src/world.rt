@@ -2,7 +2,8 @@
 ghost use Rattle.std.specs.Prelude.{◌≡◌, MatchResult};
 ghost use Rattle.sg_outside.specs.World.{InletOpens, InletRefused, OutletOpens, OutletRefused, StoreOpens, StoreRefused, PathsOpen, PathsRefused, ClosesInlet, ClosesOutlet, ClosesStore, ClosesPaths, Says, IsByPath};
 
-use sg_device::{Disk, Inlet, OpenRefusal, Opener, Outlet, SayRefusal};
+use sg_by_path::SendsByPath;
+use sg_device::{Disk, Inlet, OpenRefusal, Outlet, SayRefusal};
 use sg_outside::{Files, InletSpec, OutletSpec, StoreSpec};
 use sg_pattern::Builder;
 use std::alloc::Global;
@@ -20,7 +21,7 @@ pub trait World: Files + Builder {
 
     type Store: Disk + Send;
 
-    type Paths: Opener + Send;
+    type Paths: SendsByPath + Send;
 
     /// Opens a store. Where its file is missing and is to be made, it comes to be with 128 zero
     /// bytes, all of them stable.

@@ -33,19 +33,20 @@ a pull;pull 0;8;fault inlet 0~status 8~
 the saying;say 0;10;
 ";
 
-fn files(alloc: Global) -> Result<Vec<MemoryFile>, AllocError> {
+fn files(alloc: Global, config: &[u8]) -> Result<Vec<MemoryFile>, AllocError> {
     let mut files = Vec::new(alloc);
-    add_file(alloc, b"c", CONFIG, &mut files)?;
+    add_file(alloc, b"c", config, &mut files)?;
     add_file(alloc, b"in", b"one\ntwo\nthree\nfour\nfive\n", &mut files)?;
     Ok(files)
 }
 
-fn machine(alloc: Global) -> Result<MemoryMachine, AllocError> {
-    Ok(with_files(alloc, files(alloc)?))
+/// A machine with this configuration and five lines.
+pub(crate) fn machine(alloc: Global, config: &[u8]) -> Result<MemoryMachine, AllocError> {
+    Ok(with_files(alloc, files(alloc, config)?))
 }
 
-// The exit status of this machine and what is said, where these calls fail.
-fn run_in<T: Threads + Wait + Eprint + Sync>(
+/// The exit status of this machine and what is said, where these calls fail.
+pub(crate) fn run_in<T: Threads + Wait + Eprint + Sync>(
     rt: &T,
     alloc: Global,
     calls: &str,
@@ -58,9 +59,10 @@ fn run_in<T: Threads + Wait + Eprint + Sync>(
 fn run_failing<T: Threads + Wait + Eprint + Sync>(
     rt: &T,
     alloc: Global,
+    config: &[u8],
     calls: &str,
 ) -> Result<Vec<u8>, Fail> {
-    let mut machine = machine(alloc)?;
+    let mut machine = machine(alloc, config)?;
     run_in(rt, alloc, calls, &mut machine)
 }
 
@@ -88,23 +90,24 @@ fn parts(row: &str) -> Option<(&str, &str, &str)> {
     }
 }
 
-// Whether a row holds, and whether it was understood.
-fn holds<T: Threads + Wait + Eprint + Sync>(
+/// Whether a row holds of five lines with this configuration, and whether it was understood.
+pub(crate) fn holds<T: Threads + Wait + Eprint + Sync>(
     rt: &T,
     alloc: Global,
+    config: &[u8],
     row: &str,
 ) -> Result<bool, Fail> {
     let Some((calls, code, ending)) = parts(row) else {
         return Ok(false);
     };
-    let answer = run_failing(rt, alloc, calls)?;
+    let answer = run_failing(rt, alloc, config, calls)?;
     Ok(begins_so(alloc, &answer, code)? && ends_so(alloc, &answer, ending)?)
 }
 
 #[test]
 fn calls_that_fail(rt: HostRuntime) -> Result<(), Fail> {
     for row in ROWS.lines() {
-        assert!(rt; holds(&rt, rt.alloc(), row)?, "{row}");
+        assert!(rt; holds(&rt, rt.alloc(), CONFIG, row)?, "{row}");
     }
     Ok(())
 }

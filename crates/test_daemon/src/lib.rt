@@ -16,6 +16,8 @@ mod failing_rows;
 #[cfg(test)]
 mod machine;
 #[cfg(test)]
+mod overflow_rows;
+#[cfg(test)]
 mod path_rows;
 #[cfg(test)]
 mod run_rows;

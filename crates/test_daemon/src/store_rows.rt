@@ -50,7 +50,9 @@ const ROWS: &str = "\
 128;64 01000000026162;;5;store 0 damaged at 64~
 256;64 A, 116 01000000026162, 123 B;;5;entry 0 source 0 end 4 flow yes length 47~store 0 damaged at 116~
 256;64 A, 65 00000030;;5;store 0 damaged at 64~
-256;64 A, 69 03;;5;store 0 damaged at 64~
+256;64 A, 69 03;;0;entry 0 frame length 46~entries 1~
+128;64 0100000003036f6e;;0;entry 0 frame length 2~entries 1~
+256;64 A, 69 04;;5;store 0 damaged at 64~
 256;64 B, 69 01;;5;store 0 damaged at 64~
 ";
 

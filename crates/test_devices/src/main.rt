@@ -3,6 +3,7 @@
 #![tactic(auto)]
 
 mod both;
+mod turns;
 mod work;
 
 use std::process::ExitCode;
@@ -10,7 +11,7 @@ use std::thread::Threads;
 use std::{env, io};
 
 const USAGE: &str =
-    "usage: test_devices send PATH [fsync] | lines PATH | both PATH | pull PATH | read PATH | store PATH | look PATH";
+    "usage: test_devices send PATH [fsync] | turns PATH,PATH.. [fsync] | lines PATH | both PATH | pull PATH | read PATH | store PATH | look PATH";
 
 fn run<T: Threads>(
     threads: &T,
@@ -21,6 +22,7 @@ fn run<T: Threads>(
 ) -> io::Result<bool> {
     match what {
         "send" => work::send(rt, path, fsync),
+        "turns" => turns::turns(rt, path, fsync),
         "lines" => work::lines(rt, path),
         "both" => both::both(threads, rt, path),
         "pull" => work::pull(threads, rt, path),

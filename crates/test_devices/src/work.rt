@@ -57,7 +57,7 @@ fn say_taken(rt: HostRuntime, outlet: &FileOutlet) -> io::Result<bool> {
 }
 
 /// Sends the frames, of which there must be one, and tells whether all were taken.
-pub(crate) fn send_some(outlet: &mut FileOutlet, frames: &Frames) -> bool {
+pub(crate) fn send_some<O: Outlet>(outlet: &mut O, frames: &Frames) -> bool {
     !frames.is_empty() && outlet.send(frames).is_ok()
 }
 

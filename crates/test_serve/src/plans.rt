@@ -1,6 +1,7 @@
 // Runs of a plan of two files and two files to write.
-ghost use Rattle.std.specs.Prelude.{◌≡◌, IfOk, length};
+ghost use Rattle.std.specs.Prelude.{◌≡◌, ◌≤◌, ◌^◌, IfOk, IfSome, length};
 ghost use Rattle.sg_serve.specs.Devices.{IsFetching, AreFetching};
+ghost use Rattle.sg_serve.specs.Overflows.{IsOverflowWithin, AreOverflowsWithin};
 ghost use Rattle.sg_serve.specs.Plan.{IsRunnable};
 ghost use Rattle.test_serve.specs.Plans.{tried};
 
@@ -12,7 +13,7 @@ use sg_memory::{MemoryFile, MemoryWorld, OutletScript as Sends, Pace};
 use sg_memory_disk::FaultPlan;
 use sg_outfmt::Shape;
 use sg_outside::{InletSpec, OutletSpec, StoreSpec};
-use sg_run_plan::{InletPlan, OutletPlan, RunPlan};
+use sg_run_plan::{InletPlan, OutletPlan, OverflowPlan, RunPlan};
 use sg_serve::{Device, Early, Ended, Fault, PlanEnded, run_plan};
 use sg_template::{Env, Template};
 use sg_world::MemoryMachine;
@@ -22,7 +23,8 @@ use std::thread::Threads;
 use test_flow::ByDigit;
 
 // The call that fails, how the run ends, what failed first, and the frames of the last outlet: those of one source in their
-// order, and the two sources' in any, as ` or ` says.
+// order, and the two sources' in any, as ` or ` says. Behind `held` the last destination has a disk-buffer that isn't
+// reliable; a fault that has a number behind ` of ` leaves so many frames there.
 const ROWS: &str = r#"none;quiet;none;1b~1d~ or 1d~1b~
 store 0;store 0;none;
 store 1;store 1;none;
@@ -30,6 +32,9 @@ inlet 1;inlet 1;none;
 outlet 1;dest 1;none;
 pull 0;quiet;inlet 0;1d~
 sends;quiet;sink 1;
+held none;quiet;none;1b~1d~ or 1d~1b~
+held store 2;store 2;none;
+held sends;quiet;sink 1 of 2;
 "#;
 
 fn inlet(alloc: Global, path: &[u8]) -> Result<InletPlan, NoMemory>
@@ -56,7 +61,25 @@ fn shape(alloc: Global) -> Result<Shape, NoMemory> {
     }
 }
 
-fn outlet(alloc: Global, path: &[u8]) -> Result<OutletPlan, NoMemory> {
+// A disk-buffer that isn't reliable, where there is one.
+fn overflow(alloc: Global, held: bool) -> Result<Option<OverflowPlan>, NoMemory>
+    ensures { IfOk result (λ overflow. IfSome overflow (λ plan. plan.capacity ≤ 2 ^ 30)) }
+{
+    if !held {
+        return Ok(None);
+    }
+    let store = store(alloc, b"over-d")?;
+    Ok(Some(OverflowPlan {
+        store,
+        capacity: 1_048_576,
+        memory: 10,
+    }))
+}
+
+fn outlet(alloc: Global, path: &[u8], held: bool) -> Result<OutletPlan, NoMemory>
+    ensures { IfOk result IsOverflowWithin }
+{
+    let overflow = overflow(alloc, held)?;
     Ok(OutletPlan {
         spec: OutletSpec::File {
             path: Name::new(alloc, path)?,
@@ -72,6 +95,7 @@ fn outlet(alloc: Global, path: &[u8]) -> Result<OutletPlan, NoMemory> {
             iso: false,
             old: None,
         },
+        overflow,
     })
 }
 
@@ -117,12 +141,13 @@ fn inlets(alloc: Global) -> Result<Vec<InletPlan>, NoMemory>
     Ok(inlets)
 }
 
-fn outlets(alloc: Global) -> Result<Vec<OutletPlan>, NoMemory>
+fn outlets(alloc: Global, held: bool) -> Result<Vec<OutletPlan>, NoMemory>
     ensures two { IfOk result (λ plans. length plans.items ≡ 2) }
+    ensures within { IfOk result (λ plans. AreOverflowsWithin plans.items) }
 {
     let mut outlets = Vec::new(alloc);
-    outlets.push(outlet(alloc, b"c")?)?;
-    outlets.push(outlet(alloc, b"d")?)?;
+    outlets.push(outlet(alloc, b"c", false)?)?;
+    outlets.push(outlet(alloc, b"d", held)?)?;
     Ok(outlets)
 }
 
@@ -135,7 +160,7 @@ fn stores(alloc: Global) -> Result<Vec<StoreSpec>, NoMemory>
     Ok(stores)
 }
 
-fn plan(alloc: Global) -> Result<RunPlan, NoMemory>
+fn plan(alloc: Global, held: bool) -> Result<RunPlan, NoMemory>
     ensures runs { IfOk result IsRunnable }
     ensures inlets { IfOk result (λ plan. length plan.inlets.items ≡ 2) }
     ensures setup { IfOk result (λ plan. plan.setup ≡ tried) }
@@ -143,7 +168,7 @@ fn plan(alloc: Global) -> Result<RunPlan, NoMemory>
     let setup = setup(alloc)?;
     let stores = stores(alloc)?;
     let inlets = inlets(alloc)?;
-    let outlets = outlets(alloc)?;
+    let outlets = outlets(alloc, held)?;
     Ok(RunPlan {
         setup,
         inlets,
@@ -178,9 +203,13 @@ fn call(alloc: Global, number: u64) -> Result<FaultPlan, NoMemory> {
 
 // Lets each send of the last outlet fail.
 fn fail_sends(alloc: Global, world: &mut MemoryWorld) -> Result<(), NoMemory> {
-    let all = FaultPlan::new(vec![in alloc; 0, 1, 2, 3, 4, 5, 6, 7]?);
+    let mut all = Vec::new(alloc);
+    for number in 0..1000 {
+        all.push(number)?;
+    }
+    let sends = Sends::failing(alloc, FaultPlan::new(all));
     world.plans.outlets.push_back(Sends::never(alloc))?;
-    world.plans.outlets.push_back(Sends::failing(alloc, all))?;
+    world.plans.outlets.push_back(sends)?;
     Ok(())
 }
 
@@ -222,13 +251,34 @@ fn ended(ending: &PlanEnded, how: &str) -> bool {
         PlanEnded::Ran(Ended::Quiet, _) => how == "quiet",
         PlanEnded::Before(Early::OpenFault(Device::Store(0))) => how == "store 0",
         PlanEnded::Before(Early::OpenFault(Device::Store(1))) => how == "store 1",
+        PlanEnded::Before(Early::OpenFault(Device::Store(2))) => how == "store 2",
         PlanEnded::Before(Early::OpenFault(Device::Inlet(1))) => how == "inlet 1",
         PlanEnded::Before(Early::OpenFault(Device::Dest(1))) => how == "dest 1",
         _ => false,
     }
 }
 
+// Whether so many frames are held for the last destination, and none for the other.
+fn are_held(held: &[(u32, u64)], number: &str) -> bool {
+    if held.is_empty() {
+        return number == "0";
+    }
+    let (dest, frames) = held[0];
+    held.len() == 1 && dest == 1 && number.parse::<u64>() == Ok(frames)
+}
+
+fn holds(ending: &PlanEnded, number: &str) -> bool {
+    match ending {
+        PlanEnded::Ran(_, Some(counts)) => are_held(counts.rests.held.as_slice(), number),
+        _ => number == "0",
+    }
+}
+
 fn failed(ending: &PlanEnded, what: &str) -> bool {
+    let (what, held) = what.split_once(" of ").unwrap_or((what, "0"));
+    if !holds(ending, held) {
+        return false;
+    }
     let fault = match ending {
         PlanEnded::Ran(_, Some(counts)) => counts.fault(),
         _ => None,
@@ -270,6 +320,7 @@ fn has_taken(world: &MemoryWorld, frames: &str) -> bool {
 // The parts of a row.
 #[derive(Clone, Copy, Drop)]
 struct PlanRow<'a> {
+    held: bool,
     fails: &'a str,
     how: &'a str,
     what: &'a str,
@@ -281,8 +332,10 @@ fn cell(row: &str, place: usize) -> &str {
 }
 
 fn read_row(row: &str) -> PlanRow<'_> {
+    let first = cell(row, 0);
     PlanRow {
-        fails: cell(row, 0),
+        held: first.starts_with("held "),
+        fails: first.strip_prefix("held ").unwrap_or(first),
         how: cell(row, 1),
         what: cell(row, 2),
         frames: cell(row, 3),
@@ -293,9 +346,10 @@ fn run<T: Threads + Wait + Eprint + Sync>(
     rt: &T,
     alloc: Global,
     machine: &mut MemoryMachine,
+    held: bool,
 ) -> Result<PlanEnded, NoMemory> {
     let routers = routers(alloc)?;
-    let plan = plan(alloc)?;
+    let plan = plan(alloc, held)?;
     Ok(run_plan(rt, alloc, plan, routers, 100, 0, machine))
 }
 
@@ -309,7 +363,7 @@ fn goes<T: Threads + Wait + Eprint + Sync>(
     if !fail(alloc, row.fails, &mut machine.world)? {
         return Ok(false);
     }
-    let ending = run(rt, alloc, machine)?;
+    let ending = run(rt, alloc, machine, row.held)?;
     Ok(
         ended(&ending, row.how)
             && failed(&ending, row.what)

@@ -3,18 +3,19 @@ use Rattle.std.specs.Prelude.{map, Err}
 use Rattle.std.proofs.lemmas.List.{take_more, drop-drop, length-map}
 use Rattle.sg_device.specs.Frames.{joined, total}
 use Rattle.sg_device.proofs.FrameParts.{frame-fits, frame-there, total-more}
-use Rattle.sg_dynfile.specs.Sending.{IsUnderWay, SendsFrames}
-use Rattle.sg_dynfile.proofs.Going.{filled, some-of, begins, ends, ends-early}
+use Rattle.sg_dynfile.specs.Sending.{IsUnderWay, AreReady, SendsFrames}
+use Rattle.sg_dynfile.proofs.Going.{filled, some-of, begins, none-ready, ends, ends-early}
 use Rattle.sg_dynfile.proofs.sending.send_all.Goals as goal
 
 pub loop-size-init : goal.loop-size-init
 loop-size-init g c =
     let opener = g.P.Opener.state c.args.opener.now in
-    let run = c.bytes-run.result.now in
+    let cleared = c.clear.new.self in
     record {
       rest = c.bytes-rest.ensures;
       tracks = c.requires.tracks;
-      way = subst (λ (l : List (List ℕ)). IsUnderWay opener opener [] run l) (sym c.clear.ensures) (begins opener run);
+      ready = subst (λ (l : List ℕ). AreReady opener l cleared.texts) (sym c.clear.ensures.places) (subst (λ (l : List (List ℕ)). AreReady opener [] l) (sym c.clear.ensures.texts) (none-ready opener));
+      way = subst (λ (l : List ℕ). IsUnderWay opener opener [] l cleared.texts) (sym c.clear.ensures.places) (subst (λ (l : List (List ℕ)). IsUnderWay opener opener [] [] l) (sym c.clear.ensures.texts) (begins opener));
       some = λ h. absurd (omega (arith, h));
     }
 
@@ -53,15 +54,16 @@ loop-size-preserved g c =
     let frame = c.split_at.result.0.now in
     let old = g.P.Opener.state c.args.opener.now in
     let new = g.P.Opener.state c.add_text.new.opener in
-    let path = c.parts_of.result.0.now in
+    let waiting = c.add_text.new.waiting in
     let frames_are : take i frames ++ frame ∷ [] ≡ take (i + 1) frames = ap (λ (f : List ℕ). take i frames ++ f ∷ []) front ∙ sym (take_more frames i [] inside) in
-    let way : IsUnderWay old new (take i frames ++ frame ∷ []) path c.add_text.new.texts =
+    let way : IsUnderWay old new (take i frames ++ frame ∷ []) waiting.places.items waiting.texts =
     c.in-Ok.ensures.follows old (take i frames) frame c.loop-size.invariant.way (sym c.parts_of.ensures.parts) (ap (λ (f : List ℕ). f ∷ []) c.parts_of.ensures.whole) in
     record {
       rest = behind;
       tracks = c.in-Ok.ensures.tracks;
-      way = subst (λ (l : List (List ℕ)). IsUnderWay old new l path c.add_text.new.texts) frames_are way;
-      some = λ h. some-of c.add_text.new.texts c.in-Ok.ensures.some;
+      ready = c.in-Ok.ensures.ready;
+      way = subst (λ (l : List (List ℕ)). IsUnderWay old new l waiting.places.items waiting.texts) frames_are way;
+      some = λ h. some-of waiting.texts c.in-Ok.ensures.some;
     }
 
 pub returns-in-Err-clause-sends : goal.returns-in-Err-clause-sends
@@ -89,11 +91,11 @@ returns-in-Err-clause-sends g c =
     c.in-Err.ensures.follows old (take i frames) frame c.loop-size.invariant.way (sym c.parts_of.ensures.parts) (ap (λ (f : List ℕ). f ∷ []) c.parts_of.ensures.whole) in
     subst (λ (l : List (List ℕ)). SendsFrames old new l (Err c.in-Err.refusal)) all (ends-early old new first (drop (i + 1) frames) c.in-Err.refusal refused)
 
-pub send_run-requires-clause-some : goal.send_run-requires-clause-some
-send_run-requires-clause-some g c =
+pub send_waiting-requires-clause-some : goal.send_waiting-requires-clause-some
+send_waiting-requires-clause-some g c =
     let frames = c.args.frames.now in
     let same : length c.sizes-size-items.result.now ≡ length (map length frames) = ap (λ (l : List ℕ). length l) c.sizes-size-items.ensures in
-    filled c.loop-size.texts (c.loop-size.invariant.some (omega (arith, c.loop-size-test.false, same, length-map frames length, some-of frames c.requires.some)))
+    filled c.loop-size.waiting.texts (c.loop-size.invariant.some (omega (arith, c.loop-size-test.false, same, length-map frames length, some-of frames c.requires.some)))
 
 pub returns-clause-sends : goal.returns-clause-sends
 returns-clause-sends g c =
@@ -103,5 +105,7 @@ returns-clause-sends g c =
     let old = g.P.Opener.state c.args.opener.now in
     let mid = g.P.Opener.state c.loop-size.opener in
     let all : take i frames ≡ frames = take_all i frames (omega (arith, c.loop-size-test.false, same, length-map frames length)) in
-    let way : IsUnderWay old mid frames c.loop-size.run.now c.loop-size.texts = subst (λ (l : List (List ℕ)). IsUnderWay old mid l c.loop-size.run.now c.loop-size.texts) all c.loop-size.invariant.way in
-    ends old mid (g.P.Opener.state c.send_run.new.opener) frames c.loop-size.run.now c.loop-size.texts c.send_run.result c.send_run.ensures.sends way
+    let places = c.loop-size.waiting.places.items in
+    let texts = c.loop-size.waiting.texts in
+    let way : IsUnderWay old mid frames places texts = subst (λ (l : List (List ℕ)). IsUnderWay old mid l places texts) all c.loop-size.invariant.way in
+    ends old mid (g.P.Opener.state c.send_waiting.new.opener) frames places texts c.send_waiting.result c.loop-size.invariant.ready c.send_waiting.ensures.sends way

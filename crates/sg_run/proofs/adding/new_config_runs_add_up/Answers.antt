@@ -1,6 +1,6 @@
 use Rattle.sg_run.proofs.AddingLemmas.{new-runs-add-up}
-use Rattle.sg_serve.specs.Exits.{exit_of}
+use Rattle.sg_serve.specs.Exits.{way_of}
 use Rattle.sg_run.proofs.adding.new_config_runs_add_up.Goals as goal
 
 pub returns : goal.returns
-returns g c = new-runs-add-up g.W.Feed.Inlet.state (exit_of g.W.Drain.Outlet.state g.W.Paths.Opener.state) c.texts_mean_one.ensures.within c.new_stores_are_covered.ensures c.plan_runs_add_up.ensures
+returns g c = new-runs-add-up g.W.Feed.Inlet.state (way_of g.W.Drain.Outlet.state g.W.Paths.Opener.state g.W.Store.Disk.state) c.texts_mean_one.ensures.within c.new_stores_are_covered.ensures c.plan_runs_add_up.ensures

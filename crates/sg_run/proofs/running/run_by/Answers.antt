@@ -9,7 +9,7 @@ use Rattle.sg_run.specs.Outcomes.{EndsSo}
 use Rattle.sg_run.specs.Run.{offers_by, inlets_by, dests_by}
 use Rattle.sg_run.proofs.PlanLemmas.{runnable, all-know}
 use Rattle.sg_run.proofs.RunLemmas.{tells-by, runs-by, lines-by-plan}
-use Rattle.sg_serve.specs.Exits.{exit_of}
+use Rattle.sg_serve.specs.Exits.{way_of}
 use Rattle.sg_run.proofs.running.run_by.Goals as goal
 
 pub run_plan-ending-requires-send-R : goal.run_plan-ending-requires-send-R
@@ -26,7 +26,7 @@ run_plan-ending-requires-clause-routers g c = λ κs lives.
 pub outcome_of-requires : goal.outcome_of-requires
 outcome_of-requires g c =
     let feed = g.W.Feed.Inlet.state in
-    let drain = (exit_of g.W.Drain.Outlet.state g.W.Paths.Opener.state) in
+    let drain = (way_of g.W.Drain.Outlet.state g.W.Paths.Opener.state g.W.Store.Disk.state) in
     let old = g.W.Machine.state c.args.world.now in
     let new = g.W.Machine.state c.run_plan-ending.new.world in
     let ran = subst (λ (p : RunPlan). RunsPlan feed drain offers_by inlets_by dests_by old new p c.args.routers.items c.args.rounds c.run_plan-ending.result) c.plan_of-plan.ensures c.run_plan-ending.ensures in
@@ -35,7 +35,7 @@ outcome_of-requires g c =
 pub returns-in-Ok-Some : goal.returns-in-Ok-Some
 returns-in-Ok-Some g c =
     let feed = g.W.Feed.Inlet.state in
-    let drain = (exit_of g.W.Drain.Outlet.state g.W.Paths.Opener.state) in
+    let drain = (way_of g.W.Drain.Outlet.state g.W.Paths.Opener.state g.W.Store.Disk.state) in
     let old = g.W.Machine.state c.args.world.now in
     let new = g.W.Machine.state c.run_plan-ending.new.world in
     let ran = subst (λ (p : RunPlan). RunsPlan feed drain offers_by inlets_by dests_by old new p c.args.routers.items c.args.rounds c.run_plan-ending.result) c.plan_of-plan.ensures c.run_plan-ending.ensures in
@@ -46,7 +46,7 @@ returns-in-Ok-Some g c =
 pub returns-in-Ok-None : goal.returns-in-Ok-None
 returns-in-Ok-None g c =
     let feed = g.W.Feed.Inlet.state in
-    let drain = (exit_of g.W.Drain.Outlet.state g.W.Paths.Opener.state) in
+    let drain = (way_of g.W.Drain.Outlet.state g.W.Paths.Opener.state g.W.Store.Disk.state) in
     let old = g.W.Machine.state c.args.world.now in
     let new = g.W.Machine.state c.run_plan-ending.new.world in
     let ran = subst (λ (p : RunPlan). RunsPlan feed drain offers_by inlets_by dests_by old new p c.args.routers.items c.args.rounds c.run_plan-ending.result) c.plan_of-plan.ensures c.run_plan-ending.ensures in
@@ -55,7 +55,7 @@ returns-in-Ok-None g c =
 pub returns-in-Err : goal.returns-in-Err
 returns-in-Err g c =
     let feed = g.W.Feed.Inlet.state in
-    let drain = (exit_of g.W.Drain.Outlet.state g.W.Paths.Opener.state) in
+    let drain = (way_of g.W.Drain.Outlet.state g.W.Paths.Opener.state g.W.Store.Disk.state) in
     let old = g.W.Machine.state c.args.world.now in
     let new = g.W.Machine.state c.run_plan-ending.new.world in
     let ran = subst (λ (p : RunPlan). RunsPlan feed drain offers_by inlets_by dests_by old new p c.args.routers.items c.args.rounds c.run_plan-ending.result) c.plan_of-plan.ensures c.run_plan-ending.ensures in

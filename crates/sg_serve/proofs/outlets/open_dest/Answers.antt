@@ -1,32 +1,23 @@
-use Rattle.std.proofs.Common.{[], ◌∷◌}
+use Rattle.std.proofs.Common.{◌∙◌, ap, refl, subst}
+use Rattle.std.specs.Prelude.{option_map}
+use Rattle.sg_overflow.specs.Buffered.{inner_of, disk_in}
 use Rattle.sg_serve.specs.Devices.{outlet_asked}
-use Rattle.sg_serve.specs.Exits.{out_of}
-use Rattle.sg_serve.proofs.ExitLemmas.{outlets-kept, outlets-one, only-of, refused-fails}
+use Rattle.sg_serve.specs.Exits.{exit_of, opener_in, out_of, parts_out}
+use Rattle.sg_serve.specs.Overflows.{OpensWay}
+use Rattle.sg_serve.proofs.WayLemmas.{misses-late}
 use Rattle.sg_serve.proofs.outlets.open_dest.Goals as goal
 
-pub returns-in-Err-clause-refused : goal.returns-in-Err-clause-refused
-returns-in-Err-clause-refused g c =
+pub returns-clause-misses : goal.returns-clause-misses
+returns-clause-misses g c =
+    let drain = g.W.Drain.Outlet.state in
+    let paths = g.W.Paths.Opener.state in
+    let disk = g.W.Store.Disk.state in
     let old = g.W.Machine.state c.args.world.now in
-    let new = g.W.Machine.state c.open_exit.new.world in
-    outlets-kept old new (outlet_asked c.args.once c.args.plan.spec ∷ []) (only-of old new c.in-Err.refusal c.in-Err.ensures)
-
-pub returns-in-Err-clause-cause : goal.returns-in-Err-clause-cause
-returns-in-Err-clause-cause g c =
-    rw c.refused.ensures (refused-fails (g.W.Machine.state c.args.world.now) (g.W.Machine.state c.open_exit.new.world) c.args.d c.in-Err.refusal c.in-Err.ensures)
-
-pub returns-in-Ok-new-clause-opened : goal.returns-in-Ok-new-clause-opened
-returns-in-Ok-new-clause-opened g c =
-    let e = c.in-Ok.ensures in
-    let out = out_of g.W.Drain.Outlet.state g.W.Paths.Opener.state c.in-Ok.exit in
-    rw (c.in-Ok-new.ensures.outlet, ← c.asked-spec.ensures)
-    (outlets-one (g.W.Machine.state c.args.world.now) (g.W.Machine.state c.open_exit.new.world) c.asked-spec.result out.outlet out.opener e.asked e.new_outlet e.opens)
-
-pub returns-in-Ok-new-clause-new : goal.returns-in-Ok-new-clause-new
-returns-in-Ok-new-clause-new g c = rw c.in-Ok-new.ensures.outlet (record { is = c.in-Ok-new.ensures.new; untaken = c.in-Ok.ensures.new_outlet })
-
-pub returns-clause-refused : goal.returns-clause-refused
-returns-clause-refused g c =
-    let e = c.in-Ok.ensures in
-    let out = out_of g.W.Drain.Outlet.state g.W.Paths.Opener.state c.in-Ok.exit in
-    rw (c.in-Err-new.ensures.back, ← c.asked-spec.ensures)
-    (outlets-one (g.W.Machine.state c.args.world.now) (g.W.Machine.state c.open_exit.new.world) c.asked-spec.result out.outlet out.opener e.asked e.new_outlet e.opens)
+    let new = g.W.Machine.state c.open_way.new.world in
+    let plan = c.args.plan in
+    let out = out_of drain paths disk c.in-Ok.way in
+    let open' = subst (λ s. OpensWay old new s plan.overflow out) c.asked-spec.ensures c.in-Ok.ensures.opens in
+    let exit = c.parts_of.ensures.exit ∙ ap inner_of c.in-Err-new.ensures.back in
+    let store = c.parts_of.ensures.store ∙ ap disk_in c.in-Err-new.ensures.back in
+    misses-late old new (outlet_asked c.args.once plan.spec) plan.overflow c.args.store out (parts_out drain paths disk c.parts_of.result) open'
+    (ap (exit_of drain paths) exit) (ap (exit_of drain paths) exit) (ap (opener_in paths) exit) (ap (option_map disk) store) refl

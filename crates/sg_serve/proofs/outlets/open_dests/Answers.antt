@@ -1,81 +1,114 @@
-use Rattle.std.proofs.Common.{◌≡◌, ◌∙◌, ◌∷◌, [], ◌+◌, ◌++◌, ap, map, length, slice_get, drop, Some, subst, sym, arith, rules}
-use Rattle.std.specs.Prelude.{option_map, option_to_list}
-use Rattle.std.proofs.lemmas.List.{length-map, length-append}
-use Rattle.sg_list.proofs.ListLemmas.{slice_get-map}
-use Rattle.sg_serve.specs.Devices.{outlet_asked, outlets_asked, OpensOutlets}
-use Rattle.sg_serve.specs.Exits.{exit_of}
-use Rattle.sg_serve.specs.Actors.{dest_view, IsDestFor, AreDestsFor}
-use Rattle.sg_serve.proofs.DeviceLemmas.{map-push, drop-head, drop-tail}
-use Rattle.sg_serve.proofs.ExitLemmas.{outlets-none, outlets-more}
-use Rattle.sg_serve.proofs.ActorLemmas.{no-dests, dests-more, outlets-fail}
+use Rattle.std.proofs.Common.{◌≡◌, ◌≤◌, ◌+◌, ◌∷◌, [], ◌++◌, ◌∙◌, None, Some, ap, length, drop, refl, subst, sym, arith, rules}
+use Rattle.std.specs.Prelude.{option_map}
+use Rattle.std.proofs.lemmas.List.{length-append}
+use Rattle.sg_serve.specs.Exits.{parts_out}
+use Rattle.sg_serve.specs.declared.ending.Early.TheVariants.{NoMemory}
+use Rattle.sg_serve.proofs.ActorLemmas.{no-dests}
+use Rattle.sg_serve.proofs.DeviceLemmas.{drop-head, drop-tail}
+use Rattle.sg_serve.proofs.OpenedLemmas.{OpenedFirst, MissedAt, within-at, asked-few, opened-few, opened-none, opened-more, missed-at, early-missed, opens-missed, opens-all}
+use Rattle.sg_stores.proofs.GetLemmas.{none-of}
 use Rattle.sg_serve.proofs.outlets.open_dests.Goals as goal
 
-pub returns-in-Err-clause-refused : goal.returns-in-Err-clause-refused
-returns-in-Err-clause-refused g c = rw c.new.ensures.items (outlets-none (g.W.Machine.state c.args.world.now) (outlets_asked c.args.once c.args.plans.items))
+pub returns-in-Err : goal.returns-in-Err
+returns-in-Err g c =
+    let drain = g.W.Drain.Outlet.state in
+    let paths = g.W.Paths.Opener.state in
+    let disk = g.W.Store.Disk.state in
+    let w = g.W.Machine.state c.args.world.now in
+    let once = c.args.once in
+    let plans = c.args.plans.items in
+    let none = early-missed drain paths disk w once plans c.args.stores (no-dests once plans) in
+    opens-missed drain paths disk w w once plans c.args.stores NoMemory (record { dests = c.new.result; last = None; early = Some NoMemory })
+    (subst (λ ds. MissedAt drain paths disk w w once plans c.args.stores ds None NoMemory) (sym c.new.ensures.items) none) refl
 
 pub loop-plan-init : goal.loop-plan-init
-loop-plan-init g c = record {
-  opens = rw c.in-Ok.ensures.items (outlets-none (g.W.Machine.state c.args.world.now) (outlets_asked c.args.once c.args.plans.items));
-  new = rw c.in-Ok.ensures.items (no-dests c.args.once c.args.plans.items);
-  rest = search rules;
-  count = search rules;
-  room = search rules;
-}
+loop-plan-init g c =
+    let drain = g.W.Drain.Outlet.state in
+    let paths = g.W.Paths.Opener.state in
+    let disk = g.W.Store.Disk.state in
+    let w = g.W.Machine.state c.args.world.now in
+    let once = c.args.once in
+    let plans = c.args.plans.items in
+    let none = opened-none drain paths disk w once plans c.args.stores (no-dests once plans) in
+    record {
+      first = subst (λ ds. OpenedFirst drain paths disk w w once plans c.args.stores ds c.args.stores) (sym c.in-Ok.ensures.items) none;
+      rest = search rules;
+      count = search rules;
+      room = search rules;
+    }
+
+pub open_dest-requires-clause-within : goal.open_dest-requires-clause-within
+open_dest-requires-clause-within g c = λ κs lives.
+    let plans = c.args.plans.items in
+    let held = c.loop-plan.dests.items in
+    let front = sym c.loop-plan.invariant.rest ∙ c.in-Some.ensures.items in
+    within-at plans (length held) c.in-Some.plan c.requires.capacities (drop-head (length held) plans c.in-Some.plan c.pop_front.new.self.items front)
+
+pub returns-in-Err-open_dest : goal.returns-in-Err-open_dest
+returns-in-Err-open_dest g c =
+    let drain = g.W.Drain.Outlet.state in
+    let paths = g.W.Paths.Opener.state in
+    let disk = g.W.Store.Disk.state in
+    let old = g.W.Machine.state c.args.world.now in
+    let mid = g.W.Machine.state c.loop-plan.world in
+    let new = g.W.Machine.state c.open_dest.new.world in
+    let once = c.args.once in
+    let plans = c.args.plans.items in
+    let held = c.loop-plan.dests.items in
+    let plan = c.in-Some.plan in
+    let front = sym c.loop-plan.invariant.rest ∙ c.in-Some.ensures.items in
+    let there = drop-head (length held) plans plan c.pop_front.new.self.items front in
+    let n : c.len-in-Some.result ≡ length held = c.len-in-Some.ensures ∙ c.loop-plan.dests.ok.0 in
+    opens-missed drain paths disk old new once plans c.args.stores c.in-Err-open_dest.missed.early (record { dests = c.loop-plan.dests; last = c.in-Err-open_dest.missed.parts; early = Some c.in-Err-open_dest.missed.early })
+    (missed-at drain paths disk old mid new once plans c.args.stores held c.loop-plan.store plan c.len-in-Some.result (option_map (parts_out drain paths disk) c.in-Err-open_dest.missed.parts) c.in-Err-open_dest.missed.early
+    c.loop-plan.invariant.first there n c.in-Err-open_dest.ensures.misses) refl
+
+pub overflow_add-store : goal.overflow_add-store
+overflow_add-store g c =
+    let drain = g.W.Drain.Outlet.state in
+    let paths = g.W.Paths.Opener.state in
+    let disk = g.W.Store.Disk.state in
+    let few = opened-few drain paths disk (g.W.Machine.state c.args.world.now) (g.W.Machine.state c.loop-plan.world) c.args.once c.args.plans.items c.args.stores c.loop-plan.dests.items c.loop-plan.store c.loop-plan.invariant.first in
+    let one = asked-few c.in-Some.plan.overflow in
+    let more = c.more_stores-more.ensures in
+    let count = c.loop-plan.invariant.count in
+    let rest = ap length c.in-Some.ensures.items in
+    omega (arith, few, one, more, count, rest, c.requires.few)
 
 pub loop-plan-preserved : goal.loop-plan-preserved
 loop-plan-preserved g c =
-    let f = exit_of g.W.Drain.Outlet.state g.W.Paths.Opener.state in
+    let drain = g.W.Drain.Outlet.state in
+    let paths = g.W.Paths.Opener.state in
+    let disk = g.W.Store.Disk.state in
+    let old = g.W.Machine.state c.args.world.now in
+    let mid = g.W.Machine.state c.loop-plan.world in
+    let new = g.W.Machine.state c.open_dest.new.world in
     let inv = c.loop-plan.invariant in
     let once = c.args.once in
     let plans = c.args.plans.items in
     let held = c.loop-plan.dests.items in
+    let plan = c.in-Some.plan in
     let dest = c.in-Ok-open_dest.dest in
+    let e = c.in-Ok-open_dest.ensures in
     let front = sym inv.rest ∙ c.in-Some.ensures.items in
-    let there = drop-head (length held) plans c.in-Some.plan c.pop_front.new.self.items front in
-    let asked = slice_get-map (λ plan. outlet_asked once plan.spec) plans (length held) c.in-Some.plan there in
-    let drains = map (λ a. f a.outlet) held in
-    let views = map (λ a. dest_view a.spec a.outage (f a.outlet)) held in
-    let at : slice_get (outlets_asked once plans) (length drains) ≡ Some (outlet_asked once c.in-Some.plan.spec) = ap (slice_get (outlets_asked once plans)) (length-map held (λ a. f a.outlet)) ∙ asked in
-    let at' : slice_get plans (length views) ≡ Some c.in-Some.plan = ap (slice_get plans) (length-map held (λ a. dest_view a.spec a.outage (f a.outlet))) ∙ there in
-    let old = g.W.Machine.state c.args.world.now in
-    let new = g.W.Machine.state c.open_dest.new.world in
-    let more = outlets-more old (g.W.Machine.state c.loop-plan.world) new (outlets_asked once plans) drains (outlet_asked once c.in-Some.plan.spec) (f dest.outlet ∷ []) inv.opens at c.in-Ok-open_dest.ensures.opened in
-    let n : c.len-in-Some.result ≡ length views = c.len-in-Some.ensures ∙ c.loop-plan.dests.ok.0 ∙ sym (length-map held (λ a. dest_view a.spec a.outage (f a.outlet))) in
-    let view = dest_view dest.spec dest.outage (f dest.outlet) in
-    let is = subst (λ d. IsDestFor once d c.in-Some.plan view) n c.in-Ok-open_dest.ensures.new in
+    let there = drop-head (length held) plans plan c.pop_front.new.self.items front in
+    let n : c.len-in-Some.result ≡ length held = c.len-in-Some.ensures ∙ c.loop-plan.dests.ok.0 in
     let long = c.push_reserved.ensures.items in
+    let next = opened-more drain paths disk old mid new once plans c.args.stores held c.loop-plan.store plan dest c.len-in-Some.result inv.first there n e.opened e.new in
     record {
-      opens = subst (λ (ds : _). OpensOutlets old new (outlets_asked once plans) ds) (sym (ap (map (λ a. f a.outlet)) long ∙ map-push (λ a. f a.outlet) held dest)) more;
-      new = subst (λ (vs : _). AreDestsFor once plans vs) (sym (ap (map (λ a. dest_view a.spec a.outage (f a.outlet))) long ∙ map-push (λ a. dest_view a.spec a.outage (f a.outlet)) held dest))
-          (dests-more once plans views c.in-Some.plan view inv.new at' is);
-      rest = sym (ap (λ k. drop k plans) (ap length long ∙ length-append held (dest ∷ [])) ∙ drop-tail (length held) plans c.in-Some.plan c.pop_front.new.self.items front);
+      first = subst (λ ds. OpenedFirst drain paths disk old new once plans c.args.stores ds (c.loop-plan.store + c.more_stores-more.result)) (sym long)
+          (subst (λ k. OpenedFirst drain paths disk old new once plans c.args.stores (held ++ dest ∷ []) (c.loop-plan.store + k)) (sym c.more_stores-more.ensures) next);
+      rest = sym (ap (λ k. drop k plans) (ap length long ∙ length-append held (dest ∷ [])) ∙ drop-tail (length held) plans plan c.pop_front.new.self.items front);
       count = (let k = ap length long in let m = ap length c.in-Some.ensures.items in let t = inv.count in let j = length-append held (dest ∷ []) in omega (arith, k, m, t, j));
       room = (let k = c.push_reserved.ensures.capacity in let m = inv.room in omega (arith, k, m));
     }
 
-pub returns-in-Err-open_dest-clause-refused : goal.returns-in-Err-open_dest-clause-refused
-returns-in-Err-open_dest-clause-refused g c =
-    let f = exit_of g.W.Drain.Outlet.state g.W.Paths.Opener.state in
-    let inv = c.loop-plan.invariant in
-    let once = c.args.once in
-    let plans = c.args.plans.items in
-    let held = c.loop-plan.dests.items in
-    let front = sym inv.rest ∙ c.in-Some.ensures.items in
-    let there = drop-head (length held) plans c.in-Some.plan c.pop_front.new.self.items front in
-    let asked = slice_get-map (λ plan. outlet_asked once plan.spec) plans (length held) c.in-Some.plan there in
-    let drains = map (λ a. f a.outlet) held in
-    let at : slice_get (outlets_asked once plans) (length drains) ≡ Some (outlet_asked once c.in-Some.plan.spec) = ap (slice_get (outlets_asked once plans)) (length-map held (λ a. f a.outlet)) ∙ asked in
-    outlets-more (g.W.Machine.state c.args.world.now) (g.W.Machine.state c.loop-plan.world) (g.W.Machine.state c.open_dest.new.world) (outlets_asked once plans) drains (outlet_asked once c.in-Some.plan.spec)
-    (option_to_list (option_map f c.in-Err-open_dest.last)) inv.opens at c.in-Err-open_dest.ensures.refused
-
-pub returns-in-Err-open_dest-clause-cause : goal.returns-in-Err-open_dest-clause-cause
-returns-in-Err-open_dest-clause-cause g c =
-    let f = exit_of g.W.Drain.Outlet.state g.W.Paths.Opener.state in
-    let inv = c.loop-plan.invariant in
-    let held = c.loop-plan.dests.items in
-    let drains = map (λ a. f a.outlet) held in
-    let more = option_to_list (option_map f c.in-Err-open_dest.last) in
-    let n : c.len-in-Some.result ≡ length drains = c.len-in-Some.ensures ∙ c.loop-plan.dests.ok.0 ∙ sym (length-map held (λ a. f a.outlet)) in
-    let count : c.len-in-Some.result + length more ≡ length (drains ++ more) = ap (λ k. k + length more) n ∙ sym (length-append drains more) in
-    outlets-fail (g.W.Machine.state c.args.world.now) (g.W.Machine.state c.loop-plan.world) (g.W.Machine.state c.open_dest.new.world) (c.len-in-Some.result + length more) (length (drains ++ more)) c.in-Err-open_dest.early
-    inv.opens.faults inv.opens.paths_faults count c.in-Err-open_dest.ensures.cause
+pub returns : goal.returns
+returns g c =
+    let drain = g.W.Drain.Outlet.state in
+    let paths = g.W.Paths.Opener.state in
+    let disk = g.W.Store.Disk.state in
+    let none : c.loop-plan.rest.items ≡ [] = none-of c.loop-plan.rest.items (let a = c.loop-plan.rest.ok in let b = c.in_default.ensures.cases.0 in omega (arith, a, b)) in
+    let all : length c.args.plans.items ≤ length c.loop-plan.dests.items = (let n = ap length none in let m = c.loop-plan.invariant.count in omega (arith, n, m)) in
+    opens-all drain paths disk (g.W.Machine.state c.args.world.now) (g.W.Machine.state c.loop-plan.world) c.args.once c.args.plans.items c.args.stores c.loop-plan.store (record { dests = c.loop-plan.dests; last = None; early = None })
+    c.loop-plan.invariant.first all refl refl

@@ -7,7 +7,7 @@ use Rattle.sg_standing.specs.States.{setup_of}
 use Rattle.sg_serve.specs.Actors.{source_view, AreSourcesFor, OpensAt}
 use Rattle.sg_serve.specs.Devices.{inlets_asked}
 use Rattle.sg_serve.specs.Early.{SourcesFail}
-use Rattle.sg_serve.specs.Exits.{exit_of}
+use Rattle.sg_serve.specs.Exits.{way_of, out_of, parts_out}
 use Rattle.sg_serve.specs.Rewinds.{AreApartIn, position_at, places_of}
 use Rattle.sg_serve.specs.Run.{early_of}
 use Rattle.sg_serve.specs.declared.ending.Early.TheVariants.{NoMemory}
@@ -17,21 +17,21 @@ use Rattle.sg_serve.proofs.RunLemmas.{over-none, refused-cause, over-sources, ov
 use Rattle.sg_serve.proofs.run.run_core.Goals as goal
 
 pub returns-in_default : goal.returns-in_default
-returns-in_default g c = λ openers.
+returns-in_default g c = λ closed left.
     let e = c.hold_stores.ensures in
     let stores = map g.W.Store.Disk.state c.args.stores.items in
-    rw (e.stores, e.sources, e.feed, e.dests, e.drain)
-    (over-none g.W.Feed.Inlet.state (exit_of g.W.Drain.Outlet.state g.W.Paths.Opener.state) g.R.Router.offers g.R.Router.inlets g.R.Router.dests (g.W.Machine.state c.args.world.now) c.args.plan c.args.routers.items c.args.rounds stores stores openers NoMemory (inl refl) tt)
+    rw (e.stores, e.sources, e.feed)
+    (over-none g.W.Feed.Inlet.state (way_of g.W.Drain.Outlet.state g.W.Paths.Opener.state g.W.Store.Disk.state) g.R.Router.offers g.R.Router.inlets g.R.Router.dests (g.W.Machine.state c.args.world.now) c.args.plan c.args.routers.items c.args.rounds stores stores closed NoMemory (rw (e.ways, e.last) at left) (inl refl) tt)
 
 pub returns-in-Err : goal.returns-in-Err
-returns-in-Err g c = λ openers.
+returns-in-Err g c = λ closed left.
     let e = c.hold_stores-in-Err.ensures in
     let w = g.W.Machine.state c.args.world.now in
     let stores = map g.W.Store.Disk.state c.args.stores.items in
     let back = map g.W.Store.Disk.state c.in-Err.stores.items in
-    rw (e.stores, e.sources, e.feed, e.dests, e.drain, c.refused.ensures)
-    (over-none g.W.Feed.Inlet.state (exit_of g.W.Drain.Outlet.state g.W.Paths.Opener.state) g.R.Router.offers g.R.Router.inlets g.R.Router.dests w c.args.plan c.args.routers.items c.args.rounds stores back openers (early_of c.in-Err.refusal)
-    (inr (c.in-Err.refusal, c.in-Err.ensures.refused)) (refused-cause w c.args.plan stores back openers c.in-Err.refusal c.in-Err.ensures.refused))
+    rw (e.stores, e.sources, e.feed, c.refused.ensures)
+    (over-none g.W.Feed.Inlet.state (way_of g.W.Drain.Outlet.state g.W.Paths.Opener.state g.W.Store.Disk.state) g.R.Router.offers g.R.Router.inlets g.R.Router.dests w c.args.plan c.args.routers.items c.args.rounds stores back closed (early_of c.in-Err.refusal) (rw (e.ways, e.last) at left)
+    (inr (c.in-Err.refusal, c.in-Err.ensures.refused)) (refused-cause w c.args.plan stores back c.in-Err.refusal c.in-Err.ensures.refused))
 
 pub open_sources-requires-clause-apart : goal.open_sources-requires-clause-apart
 open_sources-requires-clause-apart g c = λ κs lives.
@@ -63,9 +63,9 @@ run_dests-requires-clause-sources g c = λ κs lives.
     are-sources f g.R.Router.inlets g.R.Router.dests c.args.plan c.args.routers.items (setup_of c.open_sources.new.core) sources (e.begun.setup ∙ c.in-Ok-open.ensures.opened.setups) c.requires.plan c.requires.routers are e.routers (sym (length-map sources view) ∙ e.sources.all ∙ ap length di)
 
 pub returns-in-Ok-open_sources : goal.returns-in-Ok-open_sources
-returns-in-Ok-open_sources g c = λ openers.
+returns-in-Ok-open_sources g c = λ closed left.
     let f = g.W.Feed.Inlet.state in
-    let d = exit_of g.W.Drain.Outlet.state g.W.Paths.Opener.state in
+    let d = way_of g.W.Drain.Outlet.state g.W.Paths.Opener.state g.W.Store.Disk.state in
     let e = c.in-Ok-open_sources.ensures in
     let plan = c.args.plan in
     let sources = c.in-Ok-open_sources.sources.items in
@@ -80,13 +80,14 @@ returns-in-Ok-open_sources g c = λ openers.
     let opened = subst (λ ps. OpensAt old mid (inlets_asked plan.once ps) (position_at first) feeds) di e.opened in
     over-dests f d g.R.Router.offers g.R.Router.inlets g.R.Router.dests old mid (g.W.Machine.state c.run_dests.new.world) plan c.args.routers.items c.args.rounds (map g.W.Store.Disk.state c.args.stores.items)
     (map g.W.Store.Disk.state c.run_dests.result.0.stores.items) first c.open_sources.new.core sources
-    (map (λ a. f a.inlet) c.run_dests.result.0.sources.items ++ option_to_list (option_map f c.run_dests.result.0.feed)) (map (λ a. d a.outlet) c.run_dests.result.0.dests.items ++ option_to_list (option_map d c.run_dests.result.0.drain))
-    openers c.run_dests.result.1 (length-map c.args.stores.items g.W.Store.Disk.state ∙ c.requires.stores) c.in-Ok-open.ensures.opened opened.opens (sym (length-map sources view) ∙ e.sources.all ∙ ap length di) opened.begin e.begun are e.routers c.run_dests.ensures
+    (map (λ a. f a.inlet) c.run_dests.result.0.sources.items ++ option_to_list (option_map f c.run_dests.result.0.feed))
+    (map (out_of g.W.Drain.Outlet.state g.W.Paths.Opener.state g.W.Store.Disk.state) c.run_dests.result.0.ways.items ++ option_to_list (option_map (parts_out g.W.Drain.Outlet.state g.W.Paths.Opener.state g.W.Store.Disk.state) c.run_dests.result.0.last))
+    closed c.run_dests.result.1 left (length-map c.args.stores.items g.W.Store.Disk.state ∙ c.requires.stores) c.in-Ok-open.ensures.opened opened.opens (sym (length-map sources view) ∙ e.sources.all ∙ ap length di) opened.begin e.begun are e.routers c.run_dests.ensures
 
 pub returns : goal.returns
-returns g c = λ openers.
+returns g c = λ closed left.
     let f = g.W.Feed.Inlet.state in
-    let d = exit_of g.W.Drain.Outlet.state g.W.Paths.Opener.state in
+    let d = way_of g.W.Drain.Outlet.state g.W.Paths.Opener.state g.W.Store.Disk.state in
     let e = c.in-Err-open_sources.ensures in
     let plan = c.args.plan in
     let feeds = map (λ a. f a.inlet) c.in-Err-open_sources.sources.items in
@@ -99,6 +100,5 @@ returns g c = λ openers.
     let now = c.open_sources.new.core in
     let opened = subst (λ ps. OpensAt old new (inlets_asked plan.once ps) (position_at first) (feeds ++ option_to_list last)) di e.refused in
     let fails = subst (λ ss. SourcesFail old new first now ss feeds last c.in-Err-open_sources.early) ds e.cause in
-    rw c.new.ensures.items
-    (over-sources f d g.R.Router.offers g.R.Router.inlets g.R.Router.dests old new plan c.args.routers.items c.args.rounds (map g.W.Store.Disk.state c.args.stores.items) (map g.W.Store.Disk.state c.into_stores.result.items) first now feeds last openers
-    c.in-Err-open_sources.early c.requires.plan (length-map c.args.stores.items g.W.Store.Disk.state ∙ c.requires.stores) c.in-Ok-open.ensures.opened opened.opens opened.begin fails c.into_stores.ensures)
+    over-sources f d g.R.Router.offers g.R.Router.inlets g.R.Router.dests old new plan c.args.routers.items c.args.rounds (map g.W.Store.Disk.state c.args.stores.items) (map g.W.Store.Disk.state c.into_stores.result.items) first now feeds last closed
+    c.in-Err-open_sources.early (rw c.new.ensures.items at left) c.requires.plan (length-map c.args.stores.items g.W.Store.Disk.state ∙ c.requires.stores) c.in-Ok-open.ensures.opened opened.opens opened.begin fails c.into_stores.ensures

@@ -3,24 +3,23 @@ use Rattle.std.specs.Prelude.{option_map, option_to_list}
 use Rattle.std.proofs.lemmas.List.{length-map}
 use Rattle.sg_serve.specs.Devices.{OpensStores}
 use Rattle.sg_serve.specs.Early.{StoresFail}
-use Rattle.sg_serve.specs.Exits.{exit_of, out_of}
-use Rattle.sg_serve.proofs.RunLemmas.{runs-over, runs-none, outlets-of}
+use Rattle.sg_serve.specs.Exits.{way_of, out_of, parts_out}
+use Rattle.sg_serve.proofs.RunLemmas.{runs-over, runs-none}
 use Rattle.sg_serve.proofs.run.run_stores.Goals as goal
 
 pub returns-in-Ok : goal.returns-in-Ok
 returns-in-Ok g c = λ closed closes.
-    runs-over g.W.Feed.Inlet.state (exit_of g.W.Drain.Outlet.state g.W.Paths.Opener.state) g.R.Router.offers g.R.Router.inlets g.R.Router.dests (g.W.Machine.state c.args.world.now) (g.W.Machine.state c.open_stores.new.world) (g.W.Machine.state c.run_core.new.world) closed
+    runs-over g.W.Feed.Inlet.state (way_of g.W.Drain.Outlet.state g.W.Paths.Opener.state g.W.Store.Disk.state) g.R.Router.offers g.R.Router.inlets g.R.Router.dests (g.W.Machine.state c.args.world.now) (g.W.Machine.state c.open_stores.new.world) (g.W.Machine.state c.run_core.new.world) closed
     c.args.plan c.args.routers.items c.args.rounds (map g.W.Store.Disk.state c.in-Ok.stores.items) (map g.W.Store.Disk.state c.run_core.result.0.stores.items)
     (map (λ a. g.W.Feed.Inlet.state a.inlet) c.run_core.result.0.sources.items ++ option_to_list (option_map g.W.Feed.Inlet.state c.run_core.result.0.feed))
-    (map (λ a. exit_of g.W.Drain.Outlet.state g.W.Paths.Opener.state a.outlet) c.run_core.result.0.dests.items ++ option_to_list (option_map (exit_of g.W.Drain.Outlet.state g.W.Paths.Opener.state) c.run_core.result.0.drain))
-    (map (λ a. out_of g.W.Drain.Outlet.state g.W.Paths.Opener.state a.outlet) c.run_core.result.0.dests.items ++ option_to_list (option_map (out_of g.W.Drain.Outlet.state g.W.Paths.Opener.state) c.run_core.result.0.drain)) c.run_core.result.1
+    (map (out_of g.W.Drain.Outlet.state g.W.Paths.Opener.state g.W.Store.Disk.state) c.run_core.result.0.ways.items ++ option_to_list (option_map (parts_out g.W.Drain.Outlet.state g.W.Paths.Opener.state g.W.Store.Disk.state) c.run_core.result.0.last)) c.run_core.result.1
     (subst (λ ss. OpensStores (g.W.Machine.state c.args.world.now) (g.W.Machine.state c.open_stores.new.world) ss (map g.W.Store.Disk.state c.in-Ok.stores.items)) c.deref.ensures.value c.in-Ok.ensures.opened)
-    (outlets-of (λ a. out_of g.W.Drain.Outlet.state g.W.Paths.Opener.state a.outlet) (out_of g.W.Drain.Outlet.state g.W.Paths.Opener.state) c.run_core.result.0.dests.items c.run_core.result.0.drain) c.run_core.ensures closes
+    c.run_core.ensures closes
 
 pub returns-in-Err : goal.returns-in-Err
 returns-in-Err g c = λ closed closes.
     let e = c.hold_stores.ensures in
-    runs-none g.W.Feed.Inlet.state (exit_of g.W.Drain.Outlet.state g.W.Paths.Opener.state) g.R.Router.offers g.R.Router.inlets g.R.Router.dests (g.W.Machine.state c.args.world.now) (g.W.Machine.state c.open_stores.new.world) closed
+    runs-none g.W.Feed.Inlet.state (way_of g.W.Drain.Outlet.state g.W.Paths.Opener.state g.W.Store.Disk.state) g.R.Router.offers g.R.Router.inlets g.R.Router.dests (g.W.Machine.state c.args.world.now) (g.W.Machine.state c.open_stores.new.world) closed
     c.args.plan c.args.routers.items c.args.rounds (map g.W.Store.Disk.state c.in-Err.stores.items) c.in-Err.early (subst (λ ss. OpensStores (g.W.Machine.state c.args.world.now) (g.W.Machine.state c.open_stores.new.world) ss (map g.W.Store.Disk.state c.in-Err.stores.items)) c.deref.ensures.value c.in-Err.ensures.refused)
     (subst (λ n. StoresFail (g.W.Machine.state c.args.world.now) (g.W.Machine.state c.open_stores.new.world) n c.in-Err.early) (sym (length-map c.in-Err.stores.items g.W.Store.Disk.state)) c.in-Err.ensures.cause)
-    (rw (e.stores, e.sources, e.feed, e.dests, e.drain) at closes)
+    (rw (e.stores, e.sources, e.feed, e.ways, e.last) at closes)
