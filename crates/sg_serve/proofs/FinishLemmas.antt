@@ -63,8 +63,6 @@ number-end (x ∷ xs) h = omega (arith, number-end xs h)
 map-end : {A B : Type 0} (f : A → B) (xs : List A) (x : A) → map f (xs ++ x ∷ []) ≡ map f xs ++ f x ∷ []
 map-end f xs x = map-append f xs (x ∷ [])
 
--- What is noted of one.
-
 -- The first of them.
 
 module _ {O D : Type 0} (outlet : O → OutletState) (disk : D → DiskState) where
