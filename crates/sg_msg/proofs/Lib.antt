@@ -1,5 +1,10 @@
 pub mod ByteOrder
 mod PairPlaces
+mod TextLemmas
+mod PartChanges
+mod PartSearch
+mod DraftLemmas
+mod SortedParts
 mod PairSearch
 pub mod KeptPairs
 pub mod KeptTags
@@ -7,7 +12,6 @@ mod TagPlaces
 mod Prefixes
 pub mod ValueLaws
 pub mod ManyPairs
-mod ApartPairs
 mod SortedPairs
 mod SunkPairs
 mod OrderedPairs

@@ -58,12 +58,12 @@ is-less Less e = refl
 is-less Equal e = absurd (cc)
 is-less Greater e = absurd (cc)
 
-front-behind : (pair first : NameValue) (pairs : List NameValue) (n : ℕ) → n ≡ length pairs → first ≡ pair → pair ∷ pairs ≡ first ∷ take n pairs
-front-behind pair first pairs n same is =
-    ap (λ (p : NameValue). p ∷ pairs) (sym is)
-    ∙ ap (λ (ps : List NameValue). first ∷ ps) (sym (take_all n pairs (omega arith)))
+front-behind : {A : Type 0} (pair first : A) (pairs : List A) (n : ℕ) → n ≡ length pairs → first ≡ pair → pair ∷ pairs ≡ first ∷ take n pairs
+front-behind {A} pair first pairs n same is =
+    ap (λ (p : A). p ∷ pairs) (sym is)
+    ∙ ap (λ (ps : List A). first ∷ ps) (sym (take_all n pairs (omega (arith, same))))
 
--- a pair and those behind it
-pub front-of : (pairs : List NameValue) (first : NameValue) → 1 ≤ length pairs → first ≡ get_or pairs 0 first → pairs ≡ first ∷ take (length pairs - 1) (drop 1 pairs)
-front-of [] first some is = absurd (omega arith)
-front-of (pair ∷ pairs) first some is = front-behind pair first pairs (length (pair ∷ pairs) - 1) (omega arith) is
+-- the first of a list and those behind it
+pub front-in : {A : Type 0} (pairs : List A) (d : A) → 1 ≤ length pairs → pairs ≡ get_or pairs 0 d ∷ take (length pairs - 1) (drop 1 pairs)
+front-in [] d some = absurd (omega (arith, some))
+front-in (pair ∷ pairs) d some = front-behind pair pair pairs (length (pair ∷ pairs) - 1) (omega arith) refl

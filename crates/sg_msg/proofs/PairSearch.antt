@@ -28,7 +28,7 @@ below-get x [] k d below lt = absurd (omega arith)
 below-get x (pair ∷ pairs) zero d below lt = below.0
 below-get x (pair ∷ pairs) (suc k) d below lt = below-get x pairs k d below.1 (omega arith)
 
-comparisons_rise : (name : List ℕ) (pairs : List NameValue) → IsAscending pairs → IsNonDecreasingBy (λ pair. ordering_index (byte_order pair.name name)) pairs
+pub comparisons_rise : (name : List ℕ) (pairs : List NameValue) → IsAscending pairs → IsNonDecreasingBy (λ pair. ordering_index (byte_order pair.name name)) pairs
 comparisons_rise name [] up i j d le lt = absurd (omega arith)
 comparisons_rise name (pair ∷ pairs) up zero zero d le lt = omega arith
 comparisons_rise name (pair ∷ pairs) up zero (suc j) d le lt = rises pair.name (get_or pairs j d).name name (byte_order (get_or pairs j d).name name) (below-get pair.name pairs j d up.0 (omega arith)) refl

@@ -33,6 +33,8 @@ pub record Build : Type 0 where
   pub pri : ℕ
   pub sent : Stamp
   pub received : Stamp
+  -- the record of which values may be parts
+  pub item : List ℕ
   -- in the order in which they were put
   pub put : List NameValue
   -- distinct, in the order set

@@ -1,9 +1,11 @@
 pub mod Macros
 pub mod Message
 pub mod Length
+pub mod Parts
 pub mod Places
 pub mod Sorting
 pub mod Build
+pub mod Drafts
 pub mod Tags
 pub mod Sets
 pub mod Priority

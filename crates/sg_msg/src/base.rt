@@ -1,15 +1,15 @@
 // The pairs of a message, in one sorted list that its handles share.
-ghost use Rattle.std.specs.Prelude.{◌≡◌, ◌<◌, [], length, remove, IfOk, IfErr, OnOk, OnErr, option_copied, slice_get, option_map};
-ghost use Rattle.sg_msg.specs.Message.{value_of, with_all, with_pair, without_pair, IsAscending};
+ghost use Rattle.std.specs.Prelude.{◌≡◌, ◌<◌, ◌≤◌, ◌+◌, true, [], length, set, insert, remove, get_or, IfOk, IfErr, OnOk, OnErr, None, Some, option_copied, slice_get, option_map};
+ghost use Rattle.std.specs.declared.cmp.Ordering.TheVariants.{Less, Greater};
+ghost use Rattle.sg_msg.specs.Message.{NameValue as NamedValue, byte_order, value_of, with_all, with_pair, without_pair, IsAscending};
 ghost use Rattle.sg_msg.specs.Places.{IsPairAt, IsGapFor};
+ghost use Rattle.sg_msg.specs.Parts.{known_name, name_in, pairs_of, AreInTexts};
 
-use crate::is_same;
-use crate::order::order;
-use crate::pair::NameValue;
+use crate::pair::{Name, Pair, Text, is_one, known_name};
+use crate::texts::{Texts, keep, keep_name};
 use bytes::Bytes;
 use std::alloc::{AllocError, Global};
 use std::cmp::Ordering;
-use std::collections::VecDeque;
 use std::marker::Model;
 use std::sync::Arc;
 
@@ -19,19 +19,23 @@ const SCANNED: usize = 8;
 // Among so many pairs the place of a name is looked for one pair after another.
 const WALKED: usize = 24;
 
-/// The pairs in order.
+/// A record, texts that aren't parts of it, and the pairs in order.
 #[derive(Drop)]
-struct Base {
-    pairs: Vec<NameValue>,
+pub(crate) struct Base {
+    texts: Texts,
+    pairs: Vec<Pair>,
 }
 
 impl Model for Base {
     ghost use Rattle.std.specs.Prelude.{List};
-    ghost use Rattle.sg_msg.specs.Message.{NameValue as NamedValue};
+    ghost use Rattle.sg_msg.specs.Message.{NameValue};
+    ghost use Rattle.sg_msg.specs.Parts.{pairs_of, AreInTexts};
 
-    ghost Value = { List NamedValue };
+    ghost Value = { List NameValue };
 
-    ghost view = { λ b. b.pairs.items };
+    ghost view = { λ b. pairs_of b.texts b.pairs.items };
+
+    ghost invariant = { λ b. AreInTexts b.texts b.pairs.items };
 }
 
 impl Clone for Base {
@@ -39,34 +43,54 @@ impl Clone for Base {
 
     fn clone(&self) -> Result<Base, AllocError> {
         Ok(Base {
+            texts: self.texts.clone()?,
             pairs: self.pairs.clone()?,
         })
     }
 }
 
-// The value of the name, which is looked for one pair after another.
-fn value_among<'a>(pairs: &'a [NameValue], name: &[u8]) -> Option<&'a [u8]>
-    ensures { option_copied result ≡ value_of name.now pairs.now }
+// The texts, in a list with room for so many more.
+fn own_copied(alloc: Global, own: &[Bytes], more: usize) -> Result<Vec<Bytes>, AllocError>
+    ensures { IfOk result (λ copies. copies.items ≡ own.now) }
 {
-    for pair in pairs {
-        if is_same(pair.name(), name) {
-            return Some(pair.value());
-        }
+    let mut copies = Vec::with_capacity(alloc, own.len().saturating_add(more))?;
+    for text in own {
+        copies.push(text.clone()?)?;
     }
-    None
+    Ok(copies)
+}
+
+// The pairs, in a list with room for so many more.
+fn pairs_copied(alloc: Global, pairs: &[Pair], more: usize) -> Result<Vec<Pair>, AllocError>
+    ensures { IfOk result (λ copies. copies.items ≡ pairs.now) }
+{
+    let mut copies = Vec::with_capacity(alloc, pairs.len().saturating_add(more))?;
+    for pair in pairs {
+        copies.push(*pair)?;
+    }
+    Ok(copies)
+}
+
+// The pair at this place.
+fn pair_at(pairs: &[Pair], place: usize) -> Pair
+    requires { place < length pairs.now }
+    ensures { slice_get pairs.now place ≡ Some result }
+{
+    pairs[place]
 }
 
 // Where the name is, or where it would go, looked for from the last pair on: names are often set in
 // their order.
-fn place_among(pairs: &[NameValue], name: &[u8]) -> Result<usize, usize>
-    requires { IsAscending pairs.now }
-    ensures found { IfOk result (IsPairAt pairs.now name.now) }
-    ensures absent { IfErr result (IsGapFor pairs.now name.now) }
+fn place_among(texts: &Texts, pairs: &[Pair], name: &[u8]) -> Result<usize, usize>
+    requires { IsAscending (pairs_of texts.now pairs.now) }
+    ensures found { IfOk result (IsPairAt (pairs_of texts.now pairs.now) name.now) }
+    ensures absent { IfErr result (IsGapFor (pairs_of texts.now pairs.now) name.now) }
 {
     let mut end = pairs.len();
     'greater: while end > 0 {
         let place = end - 1;
-        match order(pairs[place].name(), name) {
+        let pair = pair_at(pairs, place);
+        match texts.order_text(pair.name, name) {
             Ordering::Greater => end = place,
             Ordering::Equal => return Ok(place),
             Ordering::Less => return Err(end),
@@ -75,24 +99,133 @@ fn place_among(pairs: &[NameValue], name: &[u8]) -> Result<usize, usize>
     Err(0)
 }
 
-// The pairs, in a list with room for so many more.
-fn copied(alloc: Global, pairs: &[NameValue], more: usize) -> Result<Vec<NameValue>, AllocError>
-    ensures { IfOk result (λ copies. copies.items ≡ pairs.now) }
+// The same, where there are many pairs.
+fn halve(texts: &Texts, pairs: &[Pair], name: &[u8]) -> Result<usize, usize>
+    requires { IsAscending (pairs_of texts.now pairs.now) }
+    ensures found { IfOk result (IsPairAt (pairs_of texts.now pairs.now) name.now) }
+    ensures absent { IfErr result (IsGapFor (pairs_of texts.now pairs.now) name.now) }
 {
-    let mut copies = Vec::with_capacity(alloc, pairs.len().saturating_add(more))?;
-    for pair in pairs {
-        copies.push(pair.clone()?)?;
+    pairs.binary_search_by(|pair| texts.order_text(pair.name, name))
+}
+
+/// Where the name is, or where it would go.
+pub(crate) fn place_of(texts: &Texts, pairs: &[Pair], name: &[u8]) -> Result<usize, usize>
+    requires { IsAscending (pairs_of texts.now pairs.now) }
+    ensures found { IfOk result (IsPairAt (pairs_of texts.now pairs.now) name.now) }
+    ensures absent { IfErr result (IsGapFor (pairs_of texts.now pairs.now) name.now) }
+{
+    if pairs.len() <= WALKED {
+        return place_among(texts, pairs, name);
     }
-    Ok(copies)
+    halve(texts, pairs, name)
+}
+
+// Whether the name stands before the text.
+fn is_less(texts: &Texts, name: Name, text: &[u8]) -> bool
+    ensures { result ≡ true → byte_order (name_in texts.now.own.items name) text.now ≡ Less }
+{
+    match texts.order_text(name, text) {
+        Ordering::Less => true,
+        _ => false,
+    }
+}
+
+// Whether the text stands before the name.
+fn is_greater(texts: &Texts, name: Name, text: &[u8]) -> bool
+    ensures { result ≡ true → byte_order (name_in texts.now.own.items name) text.now ≡ Greater }
+{
+    match texts.order_text(name, text) {
+        Ordering::Greater => true,
+        _ => false,
+    }
+}
+
+// Whether the name would go just behind this place.
+fn goes_behind(texts: &Texts, pairs: &[Pair], place: usize, name: &[u8]) -> bool
+    requires { IsAscending (pairs_of texts.now pairs.now) }
+    ensures { result ≡ true
+        → IsGapFor (pairs_of texts.now pairs.now) name.now (place + 1) }
+{
+    if place >= pairs.len().saturating_sub(1) {
+        return false;
+    }
+    let pair = pair_at(pairs, place);
+    let next = pair_at(pairs, place + 1);
+    if !is_greater(texts, next.name, name) {
+        return false;
+    }
+    is_less(texts, pair.name, name)
+}
+
+/// As `place_of`, looked for at first just behind this place: names are often set in their order.
+pub(crate) fn place_behind(
+    texts: &Texts,
+    pairs: &[Pair],
+    place: usize,
+    name: &[u8],
+) -> Result<usize, usize>
+    requires { IsAscending (pairs_of texts.now pairs.now) }
+    ensures found { IfOk result (IsPairAt (pairs_of texts.now pairs.now) name.now) }
+    ensures absent { IfErr result (IsGapFor (pairs_of texts.now pairs.now) name.now) }
+{
+    if goes_behind(texts, pairs, place, name) {
+        return Err(place.saturating_add(1));
+    }
+    place_of(texts, pairs, name)
+}
+
+// The value of a name that most records have.
+fn known_value<'a>(texts: &'a Texts, pairs: &[Pair], name: &[u8], known: Name) -> Option<&'a [u8]>
+    requires within { AreInTexts texts.now pairs.now }
+    requires known { known_name name.now ≡ Some known }
+    ensures { option_copied result ≡ value_of name.now (pairs_of texts.now pairs.now) }
+{
+    for pair in pairs {
+        if is_one(pair.name, known) {
+            return Some(texts.value(pair.value));
+        }
+    }
+    None
+}
+
+// The value of the name, which is looked for one pair after another.
+fn value_among<'a>(texts: &'a Texts, pairs: &[Pair], name: &[u8]) -> Option<&'a [u8]>
+    ensures { option_copied result ≡ value_of name.now (pairs_of texts.now pairs.now) }
+{
+    for pair in pairs {
+        if texts.is_named(pair.name, name) {
+            return Some(texts.value(pair.value));
+        }
+    }
+    None
 }
 
 impl Base {
-    // The same, in a list with room for so many more.
+    /// Takes pairs in their order.
+    pub(crate) fn new(texts: Texts, pairs: Vec<Pair>) -> Base
+        requires { AreInTexts texts pairs.items }
+        ensures { result ≡ pairs_of texts pairs.items }
+    {
+        Base { texts, pairs }
+    }
+
+    // The same, in lists with room for so many more.
     fn with_room(&self, alloc: Global, more: usize) -> Result<Base, AllocError>
         ensures { IfOk result (λ base. base ≡ self.now) }
     {
-        let pairs = copied(alloc, self.pairs.as_slice(), more)?;
-        Ok(Base { pairs })
+        let (texts, pairs) = self.parts(alloc, more)?;
+        Ok(Base { texts, pairs })
+    }
+
+    // Its texts and its pairs, in lists with room for so many more.
+    fn parts(&self, alloc: Global, more: usize) -> Result<(Texts, Vec<Pair>), AllocError>
+        ensures pairs { IfOk result (λ parts. pairs_of parts.0 parts.1.items ≡ self.now) }
+        ensures within { IfOk result (λ parts. AreInTexts parts.0 parts.1.items) }
+    {
+        let item = self.texts.item.clone()?;
+        let own = own_copied(alloc, self.texts.own.as_slice(), more)?;
+        let pairs = pairs_copied(alloc, self.pairs.as_slice(), more)?;
+        Ok((Texts { item, own }, pairs))
     }
 
     // Where the name is, or where it would go.
@@ -101,32 +234,65 @@ impl Base {
         ensures found { IfOk result (IsPairAt self.now name.now) }
         ensures absent { IfErr result (IsGapFor self.now name.now) }
     {
-        if self.pairs.len() <= WALKED {
-            return place_among(self.pairs.as_slice(), name);
-        }
-        self.halve(name)
-    }
-
-    // As `search`, where there are many pairs.
-    fn halve(&self, name: &[u8]) -> Result<usize, usize>
-        requires { IsAscending self.now }
-        ensures found { IfOk result (IsPairAt self.now name.now) }
-        ensures absent { IfErr result (IsGapFor self.now name.now) }
-    {
-        self.pairs.binary_search_by(|pair| order(pair.name(), name))
+        place_of(&self.texts, self.pairs.as_slice(), name)
     }
 
     fn get(&self, name: &[u8]) -> Option<&[u8]>
         requires { IsAscending self.now }
         ensures { option_copied result ≡ value_of name.now self.now }
     {
-        if self.pairs.len() <= SCANNED {
-            return value_among(self.pairs.as_slice(), name);
+        if let Some(known) = known_name(name) {
+            return known_value(&self.texts, self.pairs.as_slice(), name, known);
         }
-        match self.halve(name) {
-            Ok(place) => Some(self.pairs[place].value()),
+        if self.pairs.len() <= SCANNED {
+            return value_among(&self.texts, self.pairs.as_slice(), name);
+        }
+        match halve(&self.texts, self.pairs.as_slice(), name) {
+            Ok(place) => Some(
+                self.texts
+                    .value(pair_at(self.pairs.as_slice(), place).value),
+            ),
             Err(_) => None,
         }
+    }
+
+    fn pair(&self, place: usize) -> Option<(&[u8], &[u8])>
+        ensures { option_map (λ pair. record { name = pair.0.now; value = pair.1.now }) result
+            ≡ slice_get self.now place }
+    {
+        let pair = self.pairs.get(place)?;
+        Some((self.texts.name(pair.name), self.texts.value(pair.value)))
+    }
+
+    // Gives the pair at this place the value.
+    fn replace(&mut self, place: usize, value: Bytes) -> Result<(), AllocError>
+        requires { place < length self.old }
+        ensures ok { OnOk result ((d : NamedValue) → self.new ≡ set self.old place (record {
+          name = (get_or self.old place d).name;
+          value = value;
+        })) }
+        ensures err { OnErr result (self.new ≡ self.old) }
+    {
+        let kept = keep(&mut self.texts.own, value)?;
+        let pair = pair_at(self.pairs.as_slice(), place);
+        self.pairs[place] = Pair {
+            name: pair.name,
+            value: Text::Own(kept),
+        };
+        Ok(())
+    }
+
+    // Puts a pair at this place.
+    fn insert(&mut self, place: usize, name: Bytes, value: Bytes) -> Result<(), AllocError>
+        requires { place ≤ length self.old }
+        ensures ok { OnOk result (self.new
+            ≡ insert self.old place (record { name = name; value = value })) }
+        ensures err { OnErr result (self.new ≡ self.old) }
+    {
+        let name = keep_name(&mut self.texts.own, name)?;
+        let value = Text::Own(keep(&mut self.texts.own, value)?);
+        self.pairs.insert(place, Pair { name, value })?;
+        Ok(())
     }
 
     fn set(&mut self, alloc: Global, name: &[u8], value: Bytes) -> Result<(), AllocError>
@@ -135,13 +301,12 @@ impl Base {
         ensures err { OnErr result (self.new ≡ self.old) }
     {
         match self.search(name) {
-            Ok(place) => self.pairs[place].put(value),
+            Ok(place) => self.replace(place, value),
             Err(place) => {
                 let name = Bytes::copy_from_slice(alloc, name)?;
-                self.pairs.insert(place, NameValue::new(name, value))?;
+                self.insert(place, name, value)
             }
         }
-        Ok(())
     }
 
     // As `set`, with a name whose memory is shared.
@@ -151,39 +316,12 @@ impl Base {
         ensures err { OnErr result (self.new ≡ self.old) }
     {
         match self.search(name.as_slice()) {
-            Ok(place) => self.pairs[place].put(value),
+            Ok(place) => self.replace(place, value),
             Err(place) => {
                 let name = name.clone()?;
-                self.pairs.insert(place, NameValue::new(name, value))?;
+                self.insert(place, name, value)
             }
         }
-        Ok(())
-    }
-
-    // Sets a pair.
-    fn add(&mut self, pair: NameValue) -> Result<(), AllocError>
-        requires { IsAscending self.old }
-        ensures { OnOk result (self.new ≡ with_pair pair.name pair.value self.old) }
-    {
-        match self.search(pair.name()) {
-            Ok(place) => self.pairs[place].put(pair.into_value()),
-            Err(place) => self.pairs.insert(place, pair)?,
-        }
-        Ok(())
-    }
-
-    // Those that setting these one after another gives.
-    fn of_each(alloc: Global, pairs: Vec<NameValue>) -> Result<Base, AllocError>
-        ensures { IfOk result (λ base. base ≡ with_all pairs.items []) }
-    {
-        let mut base = Base {
-            pairs: Vec::with_capacity(alloc, pairs.len())?,
-        };
-        let mut rest = VecDeque::from(pairs);
-        while let Some(pair) = rest.pop_front() {
-            base.add(pair)?;
-        }
-        Ok(base)
     }
 
     fn remove(&mut self, place: usize)
@@ -204,9 +342,9 @@ pub(crate) struct Pairs {
 impl Model for Pairs {
     ghost use Rattle.std.specs.Prelude.{List};
     ghost use Rattle.std.specs.Arc.{arc_value};
-    ghost use Rattle.sg_msg.specs.Message.{NameValue as NamedValue};
+    ghost use Rattle.sg_msg.specs.Message.{NameValue};
 
-    ghost Value = { List NamedValue };
+    ghost Value = { List NameValue };
 
     ghost view = { λ p. arc_value p.base };
 }
@@ -215,24 +353,16 @@ impl Pairs {
     pub(crate) fn new(alloc: Global) -> Result<Pairs, AllocError>
         ensures { IfOk result (λ pairs. pairs ≡ []) }
     {
-        Pairs::of(alloc, Vec::new(alloc))
+        let texts = Texts {
+            item: Bytes::new(),
+            own: Vec::new(alloc),
+        };
+        Pairs::of(alloc, Base::new(texts, Vec::new(alloc)))
     }
 
-    pub(crate) fn of(alloc: Global, pairs: Vec<NameValue>) -> Result<Pairs, AllocError>
-        ensures { IfOk result (λ shared. shared ≡ pairs.items) }
+    pub(crate) fn of(alloc: Global, base: Base) -> Result<Pairs, AllocError>
+        ensures { IfOk result (λ shared. shared ≡ base) }
     {
-        let base = Base { pairs };
-        Ok(Pairs {
-            alloc,
-            base: Arc::new(alloc, base)?,
-        })
-    }
-
-    /// Those that setting these one after another gives, each put where its name belongs.
-    pub(crate) fn of_each(alloc: Global, pairs: Vec<NameValue>) -> Result<Pairs, AllocError>
-        ensures { IfOk result (λ shared. shared ≡ with_all pairs.items []) }
-    {
-        let base = Base::of_each(alloc, pairs)?;
         Ok(Pairs {
             alloc,
             base: Arc::new(alloc, base)?,
@@ -259,6 +389,14 @@ impl Pairs {
         })
     }
 
+    /// Its texts and its pairs, in lists with room for so many more.
+    pub(crate) fn parts(&self, more: usize) -> Result<(Texts, Vec<Pair>), AllocError>
+        ensures pairs { IfOk result (λ parts. pairs_of parts.0 parts.1.items ≡ self.now) }
+        ensures within { IfOk result (λ parts. AreInTexts parts.0 parts.1.items) }
+    {
+        self.base.parts(self.alloc, more)
+    }
+
     pub(crate) fn alloc(&self) -> Global {
         self.alloc
     }
@@ -280,8 +418,7 @@ impl Pairs {
         ensures { option_map (λ pair. record { name = pair.0.now; value = pair.1.now }) result
             ≡ slice_get self.now place }
     {
-        let pair = self.base.pairs.get(place)?;
-        Some((pair.name(), pair.value()))
+        self.base.pair(place)
     }
 
     pub(crate) fn set(&mut self, name: &[u8], value: Bytes) -> Result<(), AllocError>

@@ -1,13 +1,16 @@
 // Messages made of many pairs at once.
-ghost use Rattle.std.specs.Prelude.{◌≡◌, ◌≤◌, ◌++◌, [], ◌∷◌, IfOk, OnOk, OnErr, option_copied, slice_get};
+ghost use Rattle.std.specs.Prelude.{◌≡◌, ◌≤◌, ◌++◌, [], ◌∷◌, length, IfOk, OnOk, OnErr, option_copied, slice_get, slice_range};
 ghost use Rattle.sg_msg.specs.Message.{with_tag};
 ghost use Rattle.sg_time.specs.Stamp.{IsValidStamp};
 ghost use Rattle.sg_msg.specs.Build.{name_of, MayName, some_pair, built};
+ghost use Rattle.sg_msg.specs.Parts.{KeepsName};
 
 use crate::Message;
-use crate::pair::NameValue;
+use crate::base::{Base, Pairs};
+use crate::pair::{Name, Pair, Text};
 use crate::sorting::in_order;
 use crate::tags::Tags;
+use crate::texts::{Texts, keep, keep_name, keep_part};
 use bytes::Bytes;
 use sg_time::Stamp;
 use std::alloc::{AllocError, Global};
@@ -30,18 +33,19 @@ pub enum PairName {
     Other(Bytes),
 }
 
-impl PairName {
-    fn bytes(self) -> Bytes
-        ensures { result ≡ name_of self }
-    {
-        match self {
-            PairName::Host => Bytes::from_static(b"HOST"),
-            PairName::Program => Bytes::from_static(b"PROGRAM"),
-            PairName::Pid => Bytes::from_static(b"PID"),
-            PairName::MessageId => Bytes::from_static(b"MSGID"),
-            PairName::Message => Bytes::from_static(b"MESSAGE"),
-            PairName::Other(name) => name,
-        }
+// Keeps what a pair is called.
+fn keep_pair_name(own: &mut Vec<Bytes>, name: PairName) -> Result<Name, AllocError>
+    ensures ok { IfOk result
+        (λ kept. KeepsName own.old.items own.new.items kept (name_of name)) }
+    ensures err { OnErr result (own.new.items ≡ own.old.items) }
+{
+    match name {
+        PairName::Host => Ok(Name::Host),
+        PairName::Program => Ok(Name::Program),
+        PairName::Pid => Ok(Name::Pid),
+        PairName::MessageId => Ok(Name::MessageId),
+        PairName::Message => Ok(Name::Message),
+        PairName::Other(name) => keep_name(own, name),
     }
 }
 
@@ -53,7 +57,8 @@ pub struct MessageBuilder {
     pri: u8,
     sent: Stamp,
     received: Stamp,
-    pairs: Vec<NameValue>,
+    texts: Texts,
+    pairs: Vec<Pair>,
     tags: Tags,
 }
 
@@ -62,6 +67,7 @@ impl Model for MessageBuilder {
     ghost use Rattle.sg_time.specs.Stamp.{IsValidStamp};
     ghost use Rattle.sg_msg.specs.Message.{HaveNames, AreDistinct};
     ghost use Rattle.sg_msg.specs.Build.{Build};
+    ghost use Rattle.sg_msg.specs.Parts.{pairs_of, AreInTexts};
 
     ghost Value = { Build };
 
@@ -69,12 +75,14 @@ impl Model for MessageBuilder {
       pri = b.pri;
       sent = b.sent;
       received = b.received;
-      put = b.pairs.items;
+      item = b.texts.item;
+      put = pairs_of b.texts b.pairs.items;
       tags = b.tags;
     } };
 
     ghost invariant = { λ b. (b.pri ≤ 191) × IsValidStamp b.sent × IsValidStamp b.received
-        × HaveNames b.pairs.items × AreDistinct b.tags };
+        × HaveNames (pairs_of b.texts b.pairs.items) × AreDistinct b.tags
+        × AreInTexts b.texts b.pairs.items };
 }
 
 impl MessageBuilder {
@@ -87,6 +95,30 @@ impl MessageBuilder {
           pri = pri;
           sent = sent;
           received = received;
+          item = [];
+          put = [];
+          tags = [];
+        } }
+    {
+        MessageBuilder::of_record(alloc, pri, sent, received, Bytes::new())
+    }
+
+    /// The same, for a message whose values may be parts of this record.
+    pub fn of_record(
+        alloc: Global,
+        pri: u8,
+        sent: Stamp,
+        received: Stamp,
+        item: Bytes,
+    ) -> MessageBuilder
+        requires pri { pri ≤ 191 }
+        requires sent { IsValidStamp sent }
+        requires received { IsValidStamp received }
+        ensures { result ≡ record {
+          pri = pri;
+          sent = sent;
+          received = received;
+          item = item;
           put = [];
           tags = [];
         } }
@@ -96,9 +128,20 @@ impl MessageBuilder {
             pri,
             sent,
             received,
+            texts: Texts {
+                item,
+                own: Vec::new(alloc),
+            },
             pairs: Vec::new(alloc),
             tags: Tags::new(alloc),
         }
+    }
+
+    /// The record of which values may be parts.
+    pub fn item(&self) -> &[u8]
+        ensures { result.now ≡ self.now.item }
+    {
+        self.texts.item.as_slice()
     }
 
     /// Makes room for so many pairs more. On an error the builder is as it was.
@@ -117,7 +160,25 @@ impl MessageBuilder {
         }) }
         ensures err { OnErr result (self.new ≡ self.old) }
     {
-        self.pairs.push(NameValue::new(name.bytes(), value))?;
+        let name = keep_pair_name(&mut self.texts.own, name)?;
+        let value = Text::Own(keep(&mut self.texts.own, value)?);
+        self.pairs.push(Pair { name, value })?;
+        Ok(())
+    }
+
+    /// As `put`, with the part of the record between two places. It takes no memory but the pair's.
+    pub fn put_part(&mut self, name: PairName, from: usize, to: usize) -> Result<(), AllocError>
+        requires name { MayName name }
+        requires part { (from ≤ to) × (to ≤ length self.old.item) }
+        ensures ok { OnOk result (self.new ≡ record self.old {
+          put = self.old.put
+              ++ (record { name = name_of name; value = slice_range self.old.item from to }) ∷ [];
+        }) }
+        ensures err { OnErr result (self.new ≡ self.old) }
+    {
+        let name = keep_pair_name(&mut self.texts.own, name)?;
+        let value = keep_part(&mut self.texts.own, &self.texts.item, from, to)?;
+        self.pairs.push(Pair { name, value })?;
         Ok(())
     }
 
@@ -156,7 +217,17 @@ impl MessageBuilder {
     pub fn message(self) -> Result<Message, AllocError>
         ensures { IfOk result (λ message. message ≡ built self) }
     {
-        let pairs = in_order(self.alloc, self.pairs)?;
-        Ok(Message::of(self.pri, self.sent, self.received, pairs, self.tags))
+        let MessageBuilder {
+            alloc,
+            pri,
+            sent,
+            received,
+            texts,
+            pairs,
+            tags,
+        } = self;
+        let ordered = in_order(alloc, &texts, pairs)?;
+        let shared = Pairs::of(alloc, Base::new(texts, ordered))?;
+        Ok(Message::of(pri, sent, received, shared, tags))
     }
 }

@@ -4,6 +4,7 @@
 mod base;
 mod builder;
 mod copy;
+mod draft;
 mod front;
 mod length;
 mod macros;
@@ -16,10 +17,12 @@ mod same;
 mod sets;
 mod sorting;
 mod tags;
+mod texts;
 mod threads;
 
 pub use builder::{MessageBuilder, PairName};
 pub use copy::copied;
+pub use draft::Draft;
 pub use front::{has_at, is_digit, priority};
 pub use length::less_entry;
 pub use macros::is_hard;

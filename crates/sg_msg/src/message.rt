@@ -6,7 +6,7 @@ ghost use Rattle.sg_msg.specs.Message.{IsAscending, IsPairName, HaveNames, AreDi
 
 use crate::base::Pairs;
 use crate::tags::Tags;
-use crate::{MsgRefusal, is_hard};
+use crate::{Draft, MsgRefusal, is_hard};
 use bytes::Bytes;
 use sg_time::Stamp;
 use std::alloc::{AllocError, Global};
@@ -130,6 +130,22 @@ impl Message {
             pairs: self.pairs.with_room(more)?,
             tags: self.tags.share()?,
         })
+    }
+
+    /// The same, to be changed: with room for so many pairs more, and a text of which their values may be
+    /// parts. No byte is copied.
+    pub fn draft(&self, more: usize, text: Bytes) -> Result<Draft, AllocError>
+        ensures { IfOk result (λ draft. draft ≡ record { message = self.now; text = text }) }
+    {
+        Draft::new(
+            self.pairs.alloc(),
+            self.pri,
+            self.sent,
+            self.received,
+            self.pairs.parts(more.saturating_add(1))?,
+            self.tags.share()?,
+            text,
+        )
     }
 
     /// The facility times 8, plus the severity (RFC 5424, 6.2.1): 0 to 191.

@@ -1,65 +1,91 @@
-// A name and its value.
-ghost use Rattle.std.specs.Prelude.{◌≡◌};
+// What a pair is called, and where its value stands.
+ghost use Rattle.std.specs.Prelude.{◌≡◌, ◌↔◌, true, false, None};
+ghost use Rattle.sg_msg.specs.Parts.{known_name, rank};
 
-use bytes::Bytes;
-use std::alloc::AllocError;
-use std::marker::Model;
+use crate::is_same;
+
+// The names that most records have are so long.
+const SHORTEST: usize = 3;
+
+const LONGEST: usize = 7;
+
+/// A name that most records have, or the number of one of the message's own texts.
+#[derive(Clone, Copy, PartialEq, Eq, Drop)]
+pub(crate) enum Name {
+    Host,
+    Message,
+    MessageId,
+    Pid,
+    Program,
+    Own(u32),
+}
+
+/// A part of the record, from one place to another, or the number of one of the message's own texts, or
+/// a part of that.
+#[derive(Clone, Copy, PartialEq, Eq, Drop)]
+pub(crate) enum Text {
+    Part(u32, u32),
+    Own(u32),
+    OwnPart(u32, u32, u32),
+}
 
 /// A name and its value.
-#[derive(Drop)]
-pub(crate) struct NameValue {
-    name: Bytes,
-    value: Bytes,
+#[derive(Clone, Copy, PartialEq, Eq, Drop)]
+pub(crate) struct Pair {
+    pub(crate) name: Name,
+    pub(crate) value: Text,
 }
 
-impl Model for NameValue {
-    ghost use Rattle.sg_msg.specs.Message.{NameValue as NamedValue};
-
-    ghost Value = { NamedValue };
-
-    ghost view = { λ p. record { name = p.name; value = p.value } };
+// Whether a name of so many bytes may be one that most records have.
+fn has_known_len(name: &[u8]) -> bool
+    ensures { result ≡ false → known_name name.now ≡ None }
+{
+    let len = name.len();
+    len >= SHORTEST && len <= LONGEST
 }
 
-impl NameValue {
-    pub(crate) fn new(name: Bytes, value: Bytes) -> NameValue
-        ensures { result ≡ record { name = name; value = value } }
-    {
-        NameValue { name, value }
+/// The name, where it is one that most records have.
+pub(crate) fn known_name(name: &[u8]) -> Option<Name>
+    ensures { result ≡ known_name name.now }
+{
+    if !has_known_len(name) {
+        return None;
     }
-
-    pub(crate) fn name(&self) -> &[u8]
-        ensures { result.now ≡ self.now.name }
-    {
-        &self.name
+    if is_same(name, b"HOST") {
+        return Some(Name::Host);
     }
-
-    pub(crate) fn value(&self) -> &[u8]
-        ensures { result.now ≡ self.now.value }
-    {
-        &self.value
+    if is_same(name, b"MESSAGE") {
+        return Some(Name::Message);
     }
-
-    pub(crate) fn into_value(self) -> Bytes
-        ensures { result ≡ self.value }
-    {
-        let NameValue { name: _, value } = self;
-        value
+    if is_same(name, b"MSGID") {
+        return Some(Name::MessageId);
     }
+    if is_same(name, b"PID") {
+        return Some(Name::Pid);
+    }
+    if is_same(name, b"PROGRAM") {
+        return Some(Name::Program);
+    }
+    None
+}
 
-    pub(crate) fn put(&mut self, value: Bytes)
-        ensures { self.new ≡ record self.old { value = value } }
-    {
-        self.value = value;
+/// The place of a name that most records have among those, in the order of their texts.
+pub(crate) fn rank(name: Name) -> Option<u8>
+    ensures { result ≡ rank name }
+{
+    match name {
+        Name::Host => Some(0),
+        Name::Message => Some(1),
+        Name::MessageId => Some(2),
+        Name::Pid => Some(3),
+        Name::Program => Some(4),
+        Name::Own(_) => None,
     }
 }
 
-impl Clone for NameValue {
-    ghost is_clone = { λ pair copy. copy ≡ pair };
-
-    fn clone(&self) -> Result<NameValue, AllocError> {
-        Ok(NameValue {
-            name: self.name.clone()?,
-            value: self.value.clone()?,
-        })
-    }
+/// Whether both are one name.
+pub(crate) fn is_one(name: Name, other: Name) -> bool
+    ensures { (result ≡ true) ↔ (name ≡ other) }
+{
+    name == other
 }

@@ -22,7 +22,7 @@ all-append [] second pairs = refl
 all-append (pair ∷ first) second pairs = all-append first second (with_pair pair.name pair.value pairs)
 
 pub made-anew : (content : Content) (pairs : List NameValue) (build : Build) → IsAscending content.pairs →
-    build ≡ record { pri = content.pri; sent = content.sent; received = content.received; put = content.pairs ++ pairs; tags = content.tags } →
+    build ≡ record { pri = content.pri; sent = content.sent; received = content.received; item = []; put = content.pairs ++ pairs; tags = content.tags } →
     built build ≡ record content { pairs = with_all pairs content.pairs }
 made-anew content pairs build up is =
     ap (λ (b : Build). built b) is

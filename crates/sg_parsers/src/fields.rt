@@ -1,5 +1,5 @@
 // The fields of a text with delimiters.
-ghost use Rattle.std.specs.Prelude.{◌≡◌, ◌≤◌, ◌<◌, ◌+◌, ◌++◌, true, drop, length, IfOk, OnOk};
+ghost use Rattle.std.specs.Prelude.{◌≡◌, ◌≤◌, ◌<◌, ◌+◌, ◌++◌, true, false, drop, length, IfOk, OnOk};
 ghost use Rattle.sg_parsers.specs.Fields.{opens, through_quote, behind, added, field_len, field_value, field_count};
 
 use crate::skips::{is_delimiter, plain_len, quote_place};
@@ -161,6 +161,13 @@ fn unquoted(alloc: Global, written: &[u8]) -> Result<Vec<u8>, NoMemory>
         within = behind(within, byte);
     }
     Ok(value)
+}
+
+/// Whether a field may say something else than what is written.
+pub(crate) fn is_quoted(written: &[u8]) -> bool
+    ensures { result ≡ false → field_value written.now ≡ written.now }
+{
+    has_at(written, 0, b'"')
 }
 
 /// What a field says. It shares the text's memory, but where two quotes stand for one or something

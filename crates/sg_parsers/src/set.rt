@@ -110,6 +110,7 @@ fn empty(alloc: Global, message: &Message) -> MessageBuilder
       pri = message.now.pri;
       sent = message.now.sent;
       received = message.now.received;
+      item = [];
       put = [];
       tags = [];
     } }

@@ -1,3 +1,4 @@
 pub mod Runs
 pub mod StampsOnce
 pub mod Readings
+mod Wholes

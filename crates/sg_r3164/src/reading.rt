@@ -1,9 +1,11 @@
 // From an item to its message.
-ghost use Rattle.std.specs.Prelude.{◌≡◌, ◌≤◌, ◌≤ℤ◌, pos, [], true, false, length, take, drop, codes, option_map, is_some, IfOk, OnOk, OnErr, IfSome, MatchOption, ℕ};
+ghost use Rattle.std.specs.Prelude.{◌≡◌, ◌≤◌, ◌<◌, ◌+◌, ◌^◌, ◌++◌, ◌∷◌, ◌≤ℤ◌, pos, [], true, false, length, take, drop, codes, option_map, is_some, IfOk, OnOk, OnErr, IfSome, MatchOption, ℕ};
 ghost use Rattle.std.specs.Option.{ForSome};
 ghost use Rattle.sg_time.specs.declared.stamp.Stamp.{Stamp as AStamp};
 ghost use Rattle.sg_time.specs.Stamp.{IsValidStamp};
-ghost use Rattle.sg_r3164.specs.Options.{sent_of};
+ghost use Rattle.sg_r3164.specs.Options.{sent_of, host_of};
+ghost use Rattle.sg_r3164.specs.Places.{part_at, IsPart};
+ghost use Rattle.sg_msg.specs.Build.{name_of, MayName, some_pair};
 ghost use Rattle.sg_msg.specs.Priority.{priority};
 ghost use Rattle.sg_r3164.specs.Parts.{tag, program_of, pid_of, behind_tag};
 ghost use Rattle.sg_r3164.specs.Read3164.{is_end, HasBsd, HasIso, FindsStamp, Read3164, ReadsAs, pri_of, behind_pri, behind_stamp, host_behind, behind_host, parts, pairs_behind_stamp};
@@ -18,37 +20,17 @@ use std::alloc::{AllocError, Global};
 // HOST, MESSAGE, PID and PROGRAM.
 const PARTS: usize = 4;
 
-// Puts the pairs in the order of their names, in which they stay.
-fn put_parts(
-    builder: &mut MessageBuilder,
-    host: Bytes,
-    program: Option<Bytes>,
-    pid: Option<Bytes>,
-    text: Bytes,
-) -> Result<(), AllocError>
-    requires { builder.old.put ≡ [] }
-    ensures { OnOk result (builder.new ≡ record builder.old { put = parts host program pid text }) }
-{
-    builder.reserve(PARTS)?;
-    builder.put(PairName::Host, host)?;
-    builder.put(PairName::Message, text)?;
-    builder.put_some(PairName::Pid, pid)?;
-    builder.put_some(PairName::Program, program)?;
-    Ok(())
-}
-
-fn take_pri(text: &mut Bytes, default: u8) -> u8
+// The PRI, and how much of the text it takes.
+fn find_pri(text: &[u8], default: u8) -> (u8, usize)
     requires { default ≤ 191 }
-    ensures value { result ≡ pri_of (priority text.old) default }
-    ensures rest { text.new ≡ behind_pri (priority text.old) text.old }
-    ensures range { result ≤ 191 }
+    ensures value { result.0 ≡ pri_of (priority text.now) default }
+    ensures rest { drop result.1 text.now ≡ behind_pri (priority text.now) text.now }
+    ensures range { result.0 ≤ 191 }
+    ensures within { result.1 ≤ length text.now }
 {
-    match priority(text.as_slice()) {
-        Some((pri, len)) => {
-            text.advance(len);
-            pri
-        }
-        None => default,
+    match priority(text) {
+        Some((pri, len)) => (pri, len),
+        None => (default, 0),
     }
 }
 
@@ -108,85 +90,147 @@ fn find_stamp(text: &[u8], received: Stamp) -> Option<(Stamp, usize)>
     Some(found)
 }
 
-fn take_stamp(text: &mut Bytes, received: Stamp) -> Option<(Stamp, usize)>
-    requires { IsValidStamp received }
-    ensures found { FindsStamp text.old received result }
-    ensures rest { text.new ≡ behind_stamp result text.old }
-    ensures valid { IfSome result (λ found. IsValidStamp found.0) }
+// How much of the text the stamp takes, with the space behind it.
+fn stamp_len(text: &[u8], found: Option<(Stamp, usize)>) -> usize
+    requires { ForSome found (λ found. found.1 ≤ length text.now) }
+    ensures rest { drop result text.now ≡ behind_stamp found text.now }
+    ensures within { result ≤ length text.now }
 {
-    let found = find_stamp(text.as_slice(), received);
     match found {
-        Some((_, len)) => {
-            let end = past(text.as_slice(), len, b' ');
-            text.advance(end);
-        }
-        None => {}
+        Some((_, len)) => past(text, len, b' '),
+        None => 0,
     }
-    found
 }
 
-fn take_host(text: &mut Bytes, stamped: bool) -> Result<Option<Bytes>, AllocError>
-    ensures host { IfOk result (λ host. host
-        ≡ option_map (λ len. take len text.old) (host_behind stamped text.old)) }
-    ensures rest { OnOk result (text.new ≡ behind_host (host_behind stamped text.old) text.old) }
+// Where the host behind a stamp stands, and the place behind it.
+fn find_host(text: &[u8], at: usize, stamped: bool) -> (Option<(usize, usize)>, usize)
+    requires { at ≤ length text.now }
+    ensures host { part_at text.now result.0
+        ≡ option_map (λ len. take len (drop at text.now)) (host_behind stamped (drop at text.now)) }
+    ensures rest { drop result.1 text.now
+        ≡ behind_host (host_behind stamped (drop at text.now)) (drop at text.now) }
+    ensures within { IsPart text.now result.0 × (result.1 ≤ length text.now) }
 {
     if !stamped {
-        return Ok(None);
+        return (None, at);
     }
-    match host_len(text.as_slice()) {
-        Some(len) => {
-            let host = text.split_to(len)?;
-            text.advance(1);
-            Ok(Some(host))
-        }
-        None => Ok(None),
+    match host_len(&text[at..]) {
+        Some(len) => (Some((at, at + len)), at + len + 1),
+        None => (None, at),
     }
 }
 
-/// What a tag names.
-#[derive(Drop)]
-struct Tagged {
-    program: Option<Bytes>,
-    pid: Option<Bytes>,
+/// Where what a tag names stands, and the place behind the tag.
+#[derive(Clone, Copy, Drop)]
+pub(crate) struct Tagged {
+    pub(crate) program: Option<(usize, usize)>,
+    pub(crate) pid: Option<(usize, usize)>,
+    pub(crate) said: usize,
 }
 
-fn take_tag(text: &mut Bytes) -> Result<Tagged, AllocError>
-    ensures program { IfOk result (λ tagged. tagged.program ≡ program_of (tag text.old) text.old) }
-    ensures pid { IfOk result (λ tagged. tagged.pid ≡ pid_of (tag text.old) text.old) }
-    ensures rest { OnOk result (text.new ≡ behind_tag (tag text.old) text.old) }
+fn pid_part(from: usize, pid: Option<usize>) -> Option<(usize, usize)>
+    requires { ForSome pid (λ len. from + len < 2 ^ 63) }
+    ensures { result ≡ option_map (λ len. (from, from + len)) pid }
 {
-    let Some(tag) = find_tag(text.as_slice()) else {
-        return Ok(Tagged {
+    match pid {
+        Some(len) => Some((from, from + len)),
+        None => None,
+    }
+}
+
+// What the tag at this place names.
+fn find_tagged(text: &[u8], at: usize) -> Tagged
+    requires { at ≤ length text.now }
+    ensures program { part_at text.now result.program
+        ≡ program_of (tag (drop at text.now)) (drop at text.now) }
+    ensures pid { part_at text.now result.pid
+        ≡ pid_of (tag (drop at text.now)) (drop at text.now) }
+    ensures rest { drop result.said text.now
+        ≡ behind_tag (tag (drop at text.now)) (drop at text.now) }
+    ensures within { IsPart text.now result.program × IsPart text.now result.pid
+        × (result.said ≤ length text.now) }
+{
+    let Some(tag) = find_tag(&text[at..]) else {
+        return Tagged {
             program: None,
             pid: None,
-        });
+            said: at,
+        };
     };
-    let program = Some(text.slice(0..tag.program)?);
-    let from = tag.program + 1;
-    let pid = match tag.pid {
-        Some(len) => Some(text.slice(from..from + len)?),
-        None => None,
-    };
-    text.advance(tag.len);
-    Ok(Tagged { program, pid })
+    Tagged {
+        program: Some((at, at + tag.program)),
+        pid: pid_part(at + tag.program + 1, tag.pid),
+        said: at + tag.len,
+    }
 }
 
-// The pairs of what stands behind the stamp.
-fn put_rest(
+// Puts the part of the item as HOST, or the peer.
+fn put_host(
     builder: &mut MessageBuilder,
-    mut text: Bytes,
-    stamped: bool,
+    host: Option<(usize, usize)>,
     peer: &Bytes,
     opts: &ReadOpts,
 ) -> Result<(), AllocError>
-    requires { builder.old.put ≡ [] }
-    ensures { OnOk result (builder.new
-        ≡ record builder.old { put = pairs_behind_stamp opts.now peer.now stamped text }) }
+    requires { IsPart builder.old.item host }
+    ensures { OnOk result (builder.new ≡ record builder.old {
+      put = builder.old.put ++ (record {
+        name = codes "HOST";
+        value = host_of opts.now (part_at builder.old.item host) peer.now;
+      }) ∷ [];
+    }) }
 {
-    let host = take_host(&mut text, stamped)?;
-    let host = opts.host(host, peer)?;
-    let tagged = take_tag(&mut text)?;
-    put_parts(builder, host, tagged.program, tagged.pid, text)?;
+    match host {
+        Some((from, to)) if opts.keep_hostname => builder.put_part(PairName::Host, from, to)?,
+        _ => builder.put(PairName::Host, peer.clone()?)?,
+    }
+    Ok(())
+}
+
+// Puts a part of the item, where there is one.
+fn put_range(
+    builder: &mut MessageBuilder,
+    name: PairName,
+    range: Option<(usize, usize)>,
+) -> Result<(), AllocError>
+    requires name { MayName name }
+    requires within { IsPart builder.old.item range }
+    ensures { OnOk result (builder.new ≡ record builder.old {
+      put = builder.old.put ++ some_pair (name_of name) (part_at builder.old.item range);
+    }) }
+{
+    match range {
+        Some((from, to)) => builder.put_part(name, from, to)?,
+        None => {}
+    }
+    Ok(())
+}
+
+// Puts the pairs in the order of their names, in which they stay. MESSAGE is what stands behind the
+// tag.
+fn put_parts(
+    builder: &mut MessageBuilder,
+    host: Option<(usize, usize)>,
+    tagged: Tagged,
+    end: usize,
+    peer: &Bytes,
+    opts: &ReadOpts,
+) -> Result<(), AllocError>
+    requires put { builder.old.put ≡ [] }
+    requires host { IsPart builder.old.item host }
+    requires program { IsPart builder.old.item tagged.program }
+    requires pid { IsPart builder.old.item tagged.pid }
+    requires said { (tagged.said ≤ end) × (end ≡ length builder.old.item) }
+    ensures { OnOk result (builder.new ≡ record builder.old {
+      put = parts (host_of opts.now (part_at builder.old.item host) peer.now)
+          (part_at builder.old.item tagged.program) (part_at builder.old.item tagged.pid)
+          (drop tagged.said builder.old.item);
+    }) }
+{
+    builder.reserve(PARTS)?;
+    put_host(builder, host, peer, opts)?;
+    builder.put_part(PairName::Message, tagged.said, end)?;
+    put_range(builder, PairName::Pid, tagged.pid)?;
+    put_range(builder, PairName::Program, tagged.program)?;
     Ok(())
 }
 
@@ -212,12 +256,16 @@ fn read_parsed(
     requires { IsValidStamp received }
     ensures { IfOk result (ReadsAs true opts.now received peer.now item) }
 {
-    let mut text = item;
-    let pri = take_pri(&mut text, opts.pri);
-    let found = take_stamp(&mut text, received);
+    let text = item.as_slice();
+    let end = text.len();
+    let (pri, at) = find_pri(text, opts.pri);
+    let found = find_stamp(&text[at..], received);
     let sent = sent(opts, found, received);
-    let mut builder = MessageBuilder::new(alloc, pri, sent, received);
-    put_rest(&mut builder, text, found.is_some(), peer, opts)?;
+    let at = at + stamp_len(&text[at..], found);
+    let (host, behind) = find_host(text, at, found.is_some());
+    let tagged = find_tagged(text, behind);
+    let mut builder = MessageBuilder::of_record(alloc, pri, sent, received, item);
+    put_parts(&mut builder, host, tagged, end, peer, opts)?;
     builder.message()
 }
 
@@ -231,8 +279,14 @@ fn read_unparsed(
     requires { IsValidStamp received }
     ensures { IfOk result (ReadsAs false opts.now received peer.now item) }
 {
-    let mut builder = MessageBuilder::new(alloc, opts.pri, received, received);
-    put_parts(&mut builder, peer.clone()?, None, None, item)?;
+    let end = item.len();
+    let tagged = Tagged {
+        program: None,
+        pid: None,
+        said: 0,
+    };
+    let mut builder = MessageBuilder::of_record(alloc, opts.pri, received, received, item);
+    put_parts(&mut builder, None, tagged, end, peer, opts)?;
     builder.message()
 }
 

@@ -8,7 +8,7 @@ use Rattle.std.proofs.lemmas.List.Sums.{prefix_len-le-length}
 use Rattle.std.proofs.lemmas.List.{take-append-drop, drop-drop}
 use Rattle.sg_msg.specs.Message.{NameValue}
 use Rattle.sg_template.specs.Elements.{SdName, SdItem, is_sd_name, is_param_name, is_no_dot, is_no_at, begins_with_digit, before_dot, id_length, split_name, checked, sd_name, item_of}
-use Rattle.sg_r5424.specs.declared.params.Param.{Param}
+use Rattle.sg_r5424.specs.Data.{Param}
 use Rattle.sg_r5424.specs.Data.{element_name, param_name, param_pair, element_pairs}
 use Rattle.sg_r5424.specs.Again.{is_data, data_pairs, begin_with, AreNamed, HasPlace, HavePlaces, KeepsData}
 use Rattle.sg_r5424.proofs.RunLemmas.{and_true}
@@ -162,11 +162,11 @@ map_data : (id : List ℕ) (params : List Param) → AreData (map (param_pair id
 map_data id [] = tt
 map_data id (param ∷ params) = (refl, map_data id params)
 
-element_data : (id : List ℕ) (params : List Param) → AreData (element_pairs id params)
+pub element_data : (id : List ℕ) (params : List Param) → AreData (element_pairs id params)
 element_data id [] = (refl, tt)
 element_data id (param ∷ params) = (refl, map_data id params)
 
-data_both : (first second : List NameValue) → AreData first → AreData second → AreData (first ++ second)
+pub data_both : (first second : List NameValue) → AreData first → AreData second → AreData (first ++ second)
 data_both [] second a b = b
 data_both (pair ∷ first) second a b = (a.0, data_both first second a.1 b)
 

@@ -7,7 +7,7 @@ use Rattle.std.specs.declared.alloc.AllocError.{AllocError}
 use Rattle.sg_msg.specs.Message.{NameValue}
 use Rattle.sg_msg.specs.Build.{Build}
 use Rattle.sg_r5424.specs.Takes.{PutsPairs}
-use Rattle.sg_r5424.specs.declared.params.Param.{Param}
+use Rattle.sg_r5424.specs.Data.{Param}
 use Rattle.sg_r5424.specs.Data.{StopsAtByte, IsSdName, Params, HasParams, element_name, element_pairs, param_pair, IsElement, Elements, IsData}
 use Rattle.sg_r5424.specs.Data.Params.{closed}
 use Rattle.sg_r5424.specs.Data.Elements.{none, more}

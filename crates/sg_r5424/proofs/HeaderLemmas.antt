@@ -6,7 +6,7 @@ use Rattle.sg_time.specs.Reading.{IsIso, date_form, clock_form}
 use Rattle.sg_msg.specs.Priority.{priority}
 use Rattle.sg_r3164.proofs.StampsOnce.{iso_once, first_same}
 use Rattle.sg_r5424.specs.declared.header.HeaderFront.{HeaderFront}
-use Rattle.sg_r5424.specs.declared.header.HeaderNames.{HeaderNames}
+use Rattle.sg_r5424.specs.Grammar.{HeaderNames}
 use Rattle.sg_r5424.specs.Grammar.{IsStart, IsStamp, IsHeaderFront, IsField, IsNames}
 use Rattle.sg_r5424.proofs.NameLemmas.{field_once}
 

@@ -16,3 +16,7 @@ pub mod OwnNames
 pub mod OwnData
 pub mod WrittenLine
 pub mod SaidAgain
+mod SpanLemmas
+mod EndLemmas
+mod PairOrder
+mod PlainValues

@@ -46,7 +46,7 @@ AreData [] = Unit {0}
 AreData (pair ∷ pairs) = (is_data pair ≡ true) × AreData pairs
 
 -- they have no other name
-not_named : (pair : NameValue) (name : List ℕ) → is_data pair ≡ true → bytes_eq (take 7 name) (codes ".SDATA.") ≡ false → bytes_eq pair.name name ≡ false
+pub not_named : (pair : NameValue) (name : List ℕ) → is_data pair ≡ true → bytes_eq (take 7 name) (codes ".SDATA.") ≡ false → bytes_eq pair.name name ≡ false
 not_named pair name is other = by (byte_order pair.name name) refl
   where
     by : (o : Ordering) → byte_order pair.name name ≡ o → bytes_eq pair.name name ≡ false

@@ -14,8 +14,8 @@ use Rattle.sg_msg.proofs.ManyPairs.{ascending-all}
 use Rattle.sg_r3164.specs.declared.opts.ReadOpts.{ReadOpts}
 use Rattle.sg_r3164.specs.Options.{host_of}
 use Rattle.sg_template.specs.Elements.{SdItem, is_sd_name, sd_name, item_of}
-use Rattle.sg_r5424.specs.declared.params.Param.{Param}
-use Rattle.sg_r5424.specs.declared.header.HeaderNames.{HeaderNames}
+use Rattle.sg_r5424.specs.Data.{Param}
+use Rattle.sg_r5424.specs.Grammar.{HeaderNames}
 use Rattle.sg_r5424.specs.Grammar.{unless_nil}
 use Rattle.sg_r5424.specs.Data.{Elements, IsData, param_pair, element_pairs}
 use Rattle.sg_r5424.specs.Data.Elements.{none, more}

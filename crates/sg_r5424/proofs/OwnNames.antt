@@ -9,7 +9,7 @@ use Rattle.std.proofs.lemmas.List.Sums.{list_all-from_AllPass, AllPass-from_list
 use Rattle.std.proofs.lemmas.List.Folds.{list_all-append}
 use Rattle.sg_msg.specs.Sets.{is_sd_byte}
 use Rattle.sg_template.specs.Elements.{SdName, is_sd_name, is_param_name, is_no_dot, is_no_at, begins_with_digit, before_dot, id_length, split_name, checked, sd_name}
-use Rattle.sg_r5424.specs.declared.params.Param.{Param}
+use Rattle.sg_r5424.specs.Data.{Param}
 use Rattle.sg_r5424.specs.Data.{IsSdName, Params, element_name, param_name}
 use Rattle.sg_r5424.specs.Data.Params.{closed, more}
 use Rattle.sg_r5424.specs.OwnForm.{SdElement, IsToldElement, HasDigitsBehindDots}

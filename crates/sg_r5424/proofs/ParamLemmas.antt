@@ -4,7 +4,7 @@ use Rattle.std.proofs.lemmas.List.{map-append}
 use Rattle.sg_msg.specs.Macros.{is_hard, date_macros, other_macros}
 use Rattle.sg_msg.specs.Message.{NameValue, IsPairName as MayBeName}
 use Rattle.sg_msg.specs.Build.{Build}
-use Rattle.sg_r5424.specs.declared.params.Param.{Param}
+use Rattle.sg_r5424.specs.Data.{Param}
 use Rattle.sg_r5424.specs.Data.{IsSdName, IsParam, Params, HasParams, element_name, param_name, param_pair}
 use Rattle.sg_r5424.specs.Values.{IsValue}
 use Rattle.sg_r5424.specs.Data.Params.{closed, more}

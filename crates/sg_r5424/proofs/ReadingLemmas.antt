@@ -10,7 +10,7 @@ use Rattle.sg_msg.specs.Message.{NameValue, Content}
 use Rattle.sg_msg.specs.Build.{Build}
 use Rattle.sg_r3164.specs.declared.opts.ReadOpts.{ReadOpts}
 use Rattle.sg_r5424.specs.declared.header.HeaderFront.{HeaderFront}
-use Rattle.sg_r5424.specs.declared.header.HeaderNames.{HeaderNames}
+use Rattle.sg_r5424.specs.Grammar.{HeaderNames}
 use Rattle.sg_r5424.specs.Grammar.{IsHeaderFront, IsNames, IsMsgPart}
 use Rattle.sg_r5424.specs.Data.{IsData}
 use Rattle.sg_r5424.specs.Is5424.{header_build, whole_content, Behind, ReadsSyslogMsg, TryReads}

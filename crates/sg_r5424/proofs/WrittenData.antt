@@ -8,7 +8,7 @@ use Rattle.sg_msg.specs.Message.{NameValue}
 use Rattle.sg_msg.specs.Sets.{is_sd_byte, is_escaped}
 use Rattle.std.proofs.lemmas.Bool.Decides.{nat_tests}
 use Rattle.sg_template.specs.Elements.{SdName, SdItem, is_sd_name, is_param_name, split_name, checked, sd_name, item_of, escaped, param_text, opening_text, item_text, elements_text, sdata_text}
-use Rattle.sg_r5424.specs.declared.params.Param.{Param}
+use Rattle.sg_r5424.specs.Data.{Param}
 use Rattle.sg_r5424.specs.Grammar.{IsMsgPart, without_bom}
 use Rattle.sg_r5424.specs.Data.{StopsAtByte, IsSdName, IsParam, Params, IsElement, Elements, IsData, element_pairs}
 use Rattle.sg_r5424.specs.Data.Params.{closed, more as another}

@@ -11,7 +11,7 @@ use Rattle.sg_template.specs.Texts.{text_of}
 use Rattle.std.specs.List.{filter_map}
 use Rattle.sg_template.specs.Elements.{item_of, sdata_text}
 use Rattle.sg_template.specs.Zone.{shown_stamp}
-use Rattle.sg_r5424.specs.declared.header.HeaderNames.{HeaderNames}
+use Rattle.sg_r5424.specs.Grammar.{HeaderNames}
 use Rattle.sg_r5424.specs.Is5424.{header_build, whole_content, without_end, ReadsSyslogMsg}
 use Rattle.sg_r5424.specs.Write.{field_text, message_text, pri_text, line_text, HasYear}
 use Rattle.sg_time.proofs.Dates.{shows}

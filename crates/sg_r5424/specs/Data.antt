@@ -3,7 +3,6 @@ use Rattle.std.specs.Prelude.{◌≡◌, ℕ, ◌≤◌, ◌==◌, Bool, false, 
 use Rattle.std.specs.List.{AllPass}
 use Rattle.sg_msg.specs.Message.{NameValue}
 use Rattle.sg_msg.specs.Sets.{is_sd_byte}
-use Rattle.sg_r5424.specs.declared.params.Param.{Param}
 use Rattle.sg_r5424.specs.Values.{IsValue}
 
 -- the text is at its end, or goes on with a byte that fails the test
@@ -18,6 +17,11 @@ pub record IsSdName (text name rest : List ℕ) : Type 0 where
   pub most : length name ≤ 32
   pub named : AllPass is_sd_byte name
   pub ends : StopsAtByte is_sd_byte rest
+
+-- a parameter's name and value
+pub record Param : Type 0 where
+  pub name : List ℕ
+  pub value : List ℕ
 
 -- a space, a name, an equals sign and a value in quotes
 pub record IsParam (text : List ℕ) (param : Param) (rest : List ℕ) : Type 0 where

@@ -6,7 +6,6 @@ use Rattle.sg_time.specs.Reading.{IsIso}
 use Rattle.sg_msg.specs.Priority.{priority}
 use Rattle.sg_msg.specs.Sets.{is_print}
 use Rattle.sg_r5424.specs.declared.header.HeaderFront.{HeaderFront}
-use Rattle.sg_r5424.specs.declared.header.HeaderNames.{HeaderNames}
 
 -- PRI and VERSION, which is 1, and a space (sections 6.2.1 and 6.2.2)
 pub record IsStart (text : List ℕ) (pri : ℕ) (rest : List ℕ) : Type 0 where
@@ -31,7 +30,14 @@ pub record IsField (limit : ℕ) (text field rest : List ℕ) : Type 0 where
   pub most : length field ≤ limit
   pub print : AllPass is_print field
 
--- HOSTNAME, APP-NAME, PROCID and MSGID
+-- HOSTNAME, APP-NAME, PROCID and MSGID as they are written
+pub record HeaderNames : Type 0 where
+  pub host : List ℕ
+  pub program : List ℕ
+  pub pid : List ℕ
+  pub msgid : List ℕ
+
+-- they stand at the front, each with the space behind it
 pub record IsNames (text : List ℕ) (names : HeaderNames) (rest : List ℕ) : Type 0 where
   pub behind_host : List ℕ
   pub behind_program : List ℕ

@@ -7,11 +7,10 @@ use Rattle.sg_msg.specs.Build.{Build, some_pair, built}
 use Rattle.sg_r3164.specs.declared.opts.ReadOpts.{ReadOpts}
 use Rattle.sg_r3164.specs.Options.{received_at, sent_of, host_of}
 use Rattle.sg_r5424.specs.declared.header.HeaderFront.{HeaderFront}
-use Rattle.sg_r5424.specs.declared.header.HeaderNames.{HeaderNames}
 use Rattle.std.specs.declared.alloc.AllocError.{AllocError}
 use Rattle.sg_r5424.specs.declared.refusal.R5424Refusal.{R5424Refusal}
 use Rattle.sg_r5424.specs.declared.refusal.R5424Refusal.TheVariants.{Syntax, NoMemory}
-use Rattle.sg_r5424.specs.Grammar.{IsHeaderFront, IsNames, IsMsgPart, unless_nil}
+use Rattle.sg_r5424.specs.Grammar.{HeaderNames, IsHeaderFront, IsNames, IsMsgPart, unless_nil}
 use Rattle.sg_r5424.specs.Data.{IsData}
 
 -- the pairs of the names, each where it isn't nil
@@ -28,6 +27,7 @@ header_build received peer opts front names = record {
   pri = front.pri;
   sent = sent_of opts front.stamp received;
   received = received;
+  item = [];
   put = name_pairs opts peer names;
   tags = [];
 }
@@ -43,6 +43,15 @@ whole_build build pairs message =
 
 abbrev pub whole_content : Build → List NameValue → List ℕ → Content
 whole_content build pairs message = built (whole_build build pairs message)
+
+-- pairs with those of the names and MESSAGE behind them, in the order of their names
+abbrev pub put_in_order : ReadOpts → List ℕ → HeaderNames → List ℕ → List NameValue → List NameValue
+put_in_order opts peer names message pairs = pairs
+    ++ (record { name = codes "HOST"; value = host_of opts (unless_nil names.host) peer }) ∷ []
+    ++ message_pair message ∷ []
+    ++ some_pair (codes "MSGID") (unless_nil names.msgid)
+    ++ some_pair (codes "PID") (unless_nil names.pid)
+    ++ some_pair (codes "PROGRAM") (unless_nil names.program)
 
 -- what stands behind the header: structured data and MSG
 pub record Behind (build : Build) (text : List ℕ) (whole : Content) : Type 0 where

@@ -2,6 +2,7 @@ pub mod Grammar
 pub mod Data
 pub mod Values
 pub mod Takes
+pub mod Spans
 pub mod Is5424
 pub mod Write
 pub mod Again

@@ -7,8 +7,7 @@ use Rattle.sg_msg.specs.Message.{NameValue, Content}
 use Rattle.sg_template.specs.Elements.{is_no_dot, is_no_at, begins_with_digit}
 use Rattle.sg_r3164.specs.declared.opts.ReadOpts.{ReadOpts}
 use Rattle.sg_r3164.specs.Options.{received_at}
-use Rattle.sg_r5424.specs.declared.params.Param.{Param}
-use Rattle.sg_r5424.specs.Data.{Elements, IsData}
+use Rattle.sg_r5424.specs.Data.{Param, Elements, IsData}
 use Rattle.sg_r5424.specs.Data.Elements.{none, more}
 use Rattle.sg_r5424.specs.Is5424.{without_end, ReadsSyslogMsg, Is5424}
 

@@ -1,5 +1,6 @@
 -- The values of parameters, and how they are written (RFC 5424, section 6.3.3: PARAM-VALUE).
-use Rattle.std.specs.Prelude.{◌≡◌, ℕ, ◌+◌, ◌==◌, ◌&&◌, not, Bool, true, false, if◌then◌else◌, List, [], ◌∷◌, ◌++◌, Option, None, Some}
+use Rattle.std.specs.Prelude.{◌≡◌, ◌<◌, ℕ, ◌+◌, ◌==◌, ◌&&◌, not, Bool, true, false, if◌then◌else◌, List, [], ◌∷◌, ◌++◌, length, take, drop, Option, None, Some}
+use Rattle.std.specs.List.{AllPass}
 use Rattle.sg_msg.specs.Sets.{is_escaped}
 
 -- A text spells a value: a backslash makes the byte behind it stand for itself, where that is a quote, a backslash or a closing
@@ -18,6 +19,16 @@ pub record IsValue (text value rest : List ℕ) : Type 0 where
   pub spelled : List ℕ
   pub is_text : text ≡ spelled ++ 34 ∷ rest
   pub spells : SpellsValue spelled value
+
+-- a byte that stands for itself
+abbrev pub is_plain : ℕ → Bool
+is_plain b = not (is_escaped b)
+
+-- such bytes stand before this place, and a quote there
+pub record EndsPlain (text : List ℕ) (place : ℕ) : Type 0 where
+  pub within : place < length text
+  pub plain : AllPass is_plain (take place text)
+  pub quote : drop place text ≡ 34 ∷ drop (place + 1) text
 
 -- the byte is this mark, and no backslash stands before it
 abbrev pub is_bare : Bool → ℕ → ℕ → Bool

@@ -2,10 +2,11 @@
 ghost use Rattle.std.specs.Prelude.{◌≡◌, ◌≤◌, ◌++◌, ◌∷◌, [], length, OnOk};
 ghost use Rattle.sg_r5424.specs.Data.{IsElement, IsData, element_name};
 ghost use Rattle.sg_r5424.specs.Takes.{PutsPairs};
+ghost use Rattle.sg_r5424.specs.Spans.{span_text, IsWithin, EndsItem};
 
 use crate::names::SdNames;
 use crate::params::take_params;
-use crate::take::{first_is, take_name, take_text};
+use crate::take::{Span, first_is, span_text, take_name, take_text};
 use bytes::Bytes;
 use sg_msg::{MessageBuilder, PairName};
 use std::alloc::{AllocError, Global};
@@ -14,14 +15,18 @@ use std::alloc::{AllocError, Global};
 fn put_element(
     names: &mut SdNames,
     builder: &mut MessageBuilder,
-    id: &[u8],
+    id: Span,
 ) -> Result<(), AllocError>
-    requires { length id.now ≤ 32 }
+    requires id { IsWithin (length builder.old.item) id }
+    requires short { length (span_text builder.old.item id) ≤ 32 }
     ensures { OnOk result (builder.new ≡ record builder.old {
-      put = builder.old.put ++ (record { name = element_name id.now; value = [] }) ∷ [];
+      put = builder.old.put ++ (record {
+        name = element_name (span_text builder.old.item id);
+        value = [];
+      }) ∷ [];
     }) }
 {
-    let name = names.element(id)?;
+    let name = names.element(span_text(builder.item(), id))?;
     builder.put(PairName::Other(name), Bytes::new())?;
     Ok(())
 }
@@ -32,20 +37,22 @@ fn take_element(
     names: &mut SdNames,
     builder: &mut MessageBuilder,
     text: &mut Bytes,
+    end: usize,
 ) -> Result<bool, AllocError>
+    requires { EndsItem builder.old.item text.old × (length builder.old.item ≡ end) }
     ensures { PutsPairs IsElement text.old text.new builder.old builder.new result }
 {
     if !take_text(text, b"[") {
         return Ok(false);
     }
-    let Some(id) = take_name(text)? else {
+    let Some(id) = take_name(text, end) else {
         return Ok(false);
     };
     if take_text(text, b"]") {
-        put_element(names, builder, id.as_slice())?;
+        put_element(names, builder, id)?;
         return Ok(true);
     }
-    take_params(alloc, names, builder, text, id.as_slice())
+    take_params(alloc, names, builder, text, end, id)
 }
 
 // Takes structured data, and puts its pairs.
@@ -54,7 +61,9 @@ pub(crate) fn take_data(
     names: &mut SdNames,
     builder: &mut MessageBuilder,
     text: &mut Bytes,
+    end: usize,
 ) -> Result<bool, AllocError>
+    requires { EndsItem builder.old.item text.old × (length builder.old.item ≡ end) }
     ensures { PutsPairs IsData text.old text.new builder.old builder.new result }
 {
     if take_text(text, b"-") {
@@ -67,7 +76,7 @@ pub(crate) fn take_data(
         if !first_is(text.as_slice(), b'[') {
             return Ok(true);
         }
-        if !take_element(alloc, names, builder, text)? {
+        if !take_element(alloc, names, builder, text, end)? {
             return Ok(false);
         }
     }

@@ -1,13 +1,15 @@
 // The header of a record.
-ghost use Rattle.std.specs.Prelude.{◌≡◌, ◌≤◌, ◌++◌, ◌∷◌, [], codes, Some, IfSome, IfOk, OnOk};
+ghost use Rattle.std.specs.Prelude.{◌≡◌, ◌≤◌, ◌++◌, ◌∷◌, [], codes, bytes_eq, length, drop, Some, IfSome, IfOk, OnOk};
 ghost use Rattle.std.specs.Option.{ForSome};
 ghost use Rattle.sg_time.specs.Stamp.{IsValidStamp};
 ghost use Rattle.sg_r5424.specs.Grammar.{IsStart, IsStamp, IsHeaderFront, IsNames, unless_nil};
-ghost use Rattle.sg_r5424.specs.Takes.{TakesValue, TryTakes};
-ghost use Rattle.sg_msg.specs.Build.{some_pair};
-ghost use Rattle.sg_r5424.specs.Is5424.{header_build};
+ghost use Rattle.sg_r5424.specs.Takes.{TakesValue};
+ghost use Rattle.sg_msg.specs.Build.{name_of, MayName, some_pair};
+ghost use Rattle.sg_r3164.specs.Options.{host_of, sent_of};
+ghost use Rattle.sg_r5424.specs.Spans.{span_text, names_said, IsWithin, AreNamesWithin, TakesSaid};
+ghost use Rattle.sg_r5424.specs.Is5424.{put_in_order};
 
-use crate::take::{take_field, take_text};
+use crate::take::{Span, span_text, take_field, take_text};
 use bytes::Bytes;
 use sg_msg::{MessageBuilder, PairName, is_same, priority};
 use sg_r3164::ReadOpts;
@@ -21,13 +23,13 @@ pub(crate) struct HeaderFront {
     pub(crate) stamp: Option<Stamp>,
 }
 
-/// HOSTNAME, APP-NAME, PROCID and MSGID as they are written.
-#[derive(Drop)]
-pub(crate) struct HeaderNames {
-    pub(crate) host: Bytes,
-    pub(crate) program: Bytes,
-    pub(crate) pid: Bytes,
-    pub(crate) msgid: Bytes,
+/// Where HOSTNAME, APP-NAME, PROCID and MSGID stand as they are written.
+#[derive(Clone, Copy, Drop)]
+pub(crate) struct NameSpans {
+    pub(crate) host: Span,
+    pub(crate) program: Span,
+    pub(crate) pid: Span,
+    pub(crate) msgid: Span,
 }
 
 // Takes PRI, VERSION and the space behind them.
@@ -86,80 +88,123 @@ pub(crate) fn take_front(text: &mut Bytes) -> Option<HeaderFront>
 }
 
 // Takes HOSTNAME, APP-NAME, PROCID and MSGID.
-pub(crate) fn take_names(text: &mut Bytes) -> Result<Option<HeaderNames>, AllocError>
-    ensures { TryTakes IsNames text.old text.new result }
+pub(crate) fn take_names(text: &mut Bytes, end: usize) -> Option<NameSpans>
+    requires { length text.old ≤ end }
+    ensures names { TakesSaid names_said IsNames end text.old text.new result }
+    ensures within { IfSome result (AreNamesWithin end) }
+    ensures shorter { length text.new ≤ length text.old }
 {
-    let Some(host) = take_field(text, 255)? else {
-        return Ok(None);
+    let Some(host) = take_field(text, end, 255) else {
+        return None;
     };
-    let Some(program) = take_field(text, 48)? else {
-        return Ok(None);
+    let Some(program) = take_field(text, end, 48) else {
+        return None;
     };
-    let Some(pid) = take_field(text, 128)? else {
-        return Ok(None);
+    let Some(pid) = take_field(text, end, 128) else {
+        return None;
     };
-    let Some(msgid) = take_field(text, 32)? else {
-        return Ok(None);
+    let Some(msgid) = take_field(text, end, 32) else {
+        return None;
     };
-    Ok(Some(HeaderNames {
+    Some(NameSpans {
         host,
         program,
         pid,
         msgid,
-    }))
+    })
 }
 
-fn unless_nil(field: Bytes) -> Option<Bytes>
-    ensures { result ≡ unless_nil field }
+fn is_nil(item: &[u8], field: Span) -> bool
+    requires { IsWithin (length item.now) field }
+    ensures { result ≡ bytes_eq (span_text item.now field) (codes "-") }
 {
-    if is_same(field.as_slice(), b"-") {
-        None
-    } else {
-        Some(field)
-    }
+    is_same(span_text(item, field), b"-")
 }
 
-// Gives a builder the host, and the names behind HOSTNAME, each where it isn't nil.
-fn put_names(
-    builder: &mut MessageBuilder,
-    host: Bytes,
-    program: Bytes,
-    pid: Bytes,
-    msgid: Bytes,
-) -> Result<(), AllocError>
+// Puts a field, where it isn't nil.
+fn put_field(builder: &mut MessageBuilder, name: PairName, field: Span) -> Result<(), AllocError>
+    requires name { MayName name }
+    requires field { IsWithin (length builder.old.item) field }
     ensures { OnOk result (builder.new ≡ record builder.old {
-      put = builder.old.put ++ (record { name = codes "HOST"; value = host }) ∷ []
-          ++ some_pair (codes "PROGRAM") (unless_nil program)
-          ++ some_pair (codes "PID") (unless_nil pid)
-          ++ some_pair (codes "MSGID") (unless_nil msgid);
+      put = builder.old.put
+          ++ some_pair (name_of name) (unless_nil (span_text builder.old.item field));
     }) }
 {
-    builder.put(PairName::Host, host)?;
-    builder.put_some(PairName::Program, unless_nil(program))?;
-    builder.put_some(PairName::Pid, unless_nil(pid))?;
-    builder.put_some(PairName::MessageId, unless_nil(msgid))
+    if is_nil(builder.item(), field) {
+        return Ok(());
+    }
+    builder.put_part(name, field.from, field.to)
 }
 
-// The builder of the message that the header says, with room for so many pairs.
+// Puts HOST: the field, where it isn't nil and the source keeps it, and else the peer.
+fn put_host(
+    builder: &mut MessageBuilder,
+    field: Span,
+    peer: &Bytes,
+    opts: &ReadOpts,
+) -> Result<(), AllocError>
+    requires { IsWithin (length builder.old.item) field }
+    ensures { OnOk result (builder.new ≡ record builder.old {
+      put = builder.old.put ++ (record {
+        name = codes "HOST";
+        value = host_of opts.now (unless_nil (span_text builder.old.item field)) peer.now;
+      }) ∷ [];
+    }) }
+{
+    if opts.keep_hostname && !is_nil(builder.item(), field) {
+        return builder.put_part(PairName::Host, field.from, field.to);
+    }
+    builder.put(PairName::Host, peer.clone()?)
+}
+
+// The builder of the message of this header, with room for so many pairs, and none yet.
 pub(crate) fn start_message(
     alloc: Global,
     room: usize,
     received: Stamp,
-    peer: &Bytes,
     opts: &ReadOpts,
     front: HeaderFront,
-    names: HeaderNames,
+    item: Bytes,
 ) -> Result<MessageBuilder, AllocError>
     requires pri { front.pri ≤ 191 }
     requires sent { ForSome front.stamp IsValidStamp }
     requires received { IsValidStamp received }
-    ensures { IfOk result
-        (λ builder. builder ≡ header_build received peer.now opts.now front names) }
+    ensures { IfOk result (λ builder. builder ≡ record {
+      pri = front.pri;
+      sent = sent_of opts.now front.stamp received;
+      received = received;
+      item = item;
+      put = [];
+      tags = [];
+    }) }
 {
     let sent = opts.sent(front.stamp, received);
-    let host = opts.host(unless_nil(names.host), peer)?;
-    let mut builder = MessageBuilder::new(alloc, front.pri, sent, received);
+    let mut builder = MessageBuilder::of_record(alloc, front.pri, sent, received, item);
     builder.reserve(room)?;
-    put_names(&mut builder, host, names.program, names.pid, names.msgid)?;
     Ok(builder)
+}
+
+// Puts the pairs of the names, and what stands from this place of the item on as MESSAGE, in the order of
+// their names.
+pub(crate) fn put_names(
+    builder: &mut MessageBuilder,
+    names: NameSpans,
+    peer: &Bytes,
+    opts: &ReadOpts,
+    from: usize,
+    end: usize,
+) -> Result<(), AllocError>
+    requires names { AreNamesWithin (length builder.old.item) names }
+    requires from { (from ≤ end) × (end ≡ length builder.old.item) }
+    ensures { OnOk result (builder.new ≡ record builder.old {
+      put = put_in_order opts.now peer.now (names_said builder.old.item names)
+          (drop from builder.old.item) builder.old.put;
+    }) }
+{
+    put_host(builder, names.host, peer, opts)?;
+    builder.put_part(PairName::Message, from, end)?;
+    put_field(builder, PairName::MessageId, names.msgid)?;
+    put_field(builder, PairName::Pid, names.pid)?;
+    put_field(builder, PairName::Program, names.program)?;
+    Ok(())
 }

@@ -1,15 +1,14 @@
 // From a record to its message.
-ghost use Rattle.std.specs.Prelude.{◌≡◌, ◌≤◌, ◌≤ℤ◌, ◌++◌, [], ◌∷◌, pos, List, ℕ, codes, length, IfOk, OnOk, MatchOption};
+ghost use Rattle.std.specs.Prelude.{◌≡◌, ◌≤◌, ◌≤ℤ◌, ◌++◌, [], ◌∷◌, pos, List, ℕ, codes, length, drop, IfOk, IfSome, OnOk, MatchOption};
 ghost use Rattle.std.specs.List.{suffix_len};
 ghost use Rattle.sg_time.specs.Stamp.{IsValidStamp};
-ghost use Rattle.sg_msg.specs.Build.{built};
 ghost use Rattle.sg_msg.specs.Message.{with_all};
 ghost use Rattle.sg_r5424.specs.Grammar.{IsMsgPart};
-ghost use Rattle.sg_r5424.specs.Is5424.{is_end_byte, without_end, message_pair, Behind, ReadsSyslogMsg, Answers5424, TryReads, refusal, refusal_pairs};
+ghost use Rattle.sg_r5424.specs.Spans.{names_said, AreNamesWithin, EndsItem};
+ghost use Rattle.sg_r5424.specs.Is5424.{is_end_byte, without_end, name_pairs, message_pair, Behind, ReadsSyslogMsg, Answers5424, TryReads, refusal, refusal_pairs};
 
 use crate::elements::take_data;
-use crate::header::{start_message, take_front, take_names};
-use crate::take::take_text;
+use crate::header::{NameSpans, put_names, start_message, take_front, take_names};
 use crate::{R5424Refusal, SdNames};
 use bytes::Bytes;
 use sg_msg::{Message, MessageBuilder, PairName};
@@ -45,50 +44,47 @@ fn drop_end(text: &mut Bytes)
     text.truncate(len - end);
 }
 
-// What MSG says, where a text is at its end or goes on with it.
-fn message_in(mut text: Bytes) -> Option<Bytes>
-    ensures { MatchOption result ((message : List ℕ) → ¬ IsMsgPart text message)
-        (λ message. IsMsgPart text message) }
+// Where what MSG says begins, where a text is at its end or goes on with it.
+fn message_at(text: &[u8]) -> Option<usize>
+    ensures said { MatchOption result ((message : List ℕ) → ¬ IsMsgPart text.now message)
+        (λ at. IsMsgPart text.now (drop at text.now)) }
+    ensures within { IfSome result (λ at. at ≤ length text.now) }
 {
-    if text.is_empty() {
-        return Some(text);
+    match text {
+        [] => Some(0),
+        [b' ', 0xef, 0xbb, 0xbf, ..] => Some(4),
+        [b' ', ..] => Some(1),
+        _ => None,
     }
-    if !take_text(&mut text, b" ") {
-        return None;
-    }
-    if text.as_slice().starts_with(b"\xef\xbb\xbf") {
-        text.advance(3);
-    }
-    Some(text)
 }
 
-// The message with this MESSAGE.
-fn finish(mut builder: MessageBuilder, said: Bytes) -> Result<Message, AllocError>
-    ensures { IfOk result (λ message. message
-        ≡ built (record builder { put = builder.put ++ message_pair said ∷ [] })) }
-{
-    builder.put(PairName::Message, said)?;
-    let message = builder.message()?;
-    Ok(message)
-}
-
-// Reads what stands behind the header into the message that the header says.
+// Reads what stands behind the header, and puts the pairs of the header behind those of structured data.
 fn read_behind(
     alloc: Global,
     pair_names: &mut SdNames,
     mut builder: MessageBuilder,
     text: &mut Bytes,
+    end: usize,
+    names: NameSpans,
+    peer: &Bytes,
+    opts: &ReadOpts,
 ) -> Result<Option<Message>, AllocError>
-    ensures { TryReads (Behind builder text.old) text.old text.new result }
+    requires ends { EndsItem builder.item text.old × (length builder.item ≡ end) }
+    requires none { builder.put ≡ [] }
+    requires names { AreNamesWithin end names }
+    ensures { TryReads (Behind (record builder {
+      put = name_pairs opts.now peer.now (names_said builder.item names);
+    }) text.old) text.old text.new result }
 {
-    if !take_data(alloc, pair_names, &mut builder, text)? {
+    if !take_data(alloc, pair_names, &mut builder, text, end)? {
         return Ok(None);
     }
-    let rest = text.clone()?;
-    let Some(said) = message_in(rest) else {
+    let Some(at) = message_at(text.as_slice()) else {
         return Ok(None);
     };
-    let message = finish(builder, said)?;
+    let from = end - text.len() + at;
+    put_names(&mut builder, names, peer, opts, from, end)?;
+    let message = builder.message()?;
     Ok(Some(message))
 }
 
@@ -104,15 +100,17 @@ fn read_record(
     ensures { TryReads (ReadsSyslogMsg received peer.now opts.now text.old) text.old text.new
         result }
 {
+    let item = text.clone()?;
+    let end = item.len();
     let Some(front) = take_front(text) else {
         return Ok(None);
     };
-    let Some(names) = take_names(text)? else {
+    let Some(names) = take_names(text, end) else {
         return Ok(None);
     };
     let room = HEADER_PAIRS + pair_names.restart();
-    let builder = start_message(alloc, room, received, peer, opts, front, names)?;
-    read_behind(alloc, pair_names, builder, text)
+    let builder = start_message(alloc, room, received, opts, front, item)?;
+    read_behind(alloc, pair_names, builder, text, end, names, peer, opts)
 }
 
 /// The message of a record of RFC 5424. `Syntax` where the record isn't of that form. LF and NUL bytes

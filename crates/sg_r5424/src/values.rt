@@ -1,8 +1,10 @@
 // The values of parameters.
-ghost use Rattle.std.specs.Prelude.{◌≡◌, ◌<◌, ◌++◌, false, length, IfOk, IfSome, OnOk};
-ghost use Rattle.sg_r5424.specs.Values.{is_bare, IsValue, quote_from, unescaped_byte, unescaped_from};
-ghost use Rattle.sg_r5424.specs.Takes.{TryTakes};
+ghost use Rattle.std.specs.Prelude.{◌≡◌, ◌≤◌, ◌<◌, ◌++◌, ℕ, false, length, IfOk, IfSome, OnOk};
+ghost use Rattle.std.specs.List.{prefix_len};
+ghost use Rattle.sg_r5424.specs.Values.{is_plain, EndsPlain, is_bare, IsValue, quote_from, unescaped_byte, unescaped_from};
+ghost use Rattle.sg_r5424.specs.Spans.{value_said, IsWithin, IsValueWithin, SpellsPart, TakesSaid};
 
+use crate::take::{Span, first_is, take_span};
 use bytes::Bytes;
 use sg_msg::is_escaped;
 use std::alloc::{AllocError, Global};
@@ -63,27 +65,91 @@ fn unescape(alloc: Global, text: &[u8]) -> Result<Vec<u8>, AllocError>
     Ok(value)
 }
 
-// The value that a text spells. It is the text itself, where that has no backslash.
-fn spelled_value(alloc: Global, text: Bytes) -> Result<Bytes, AllocError>
-    ensures { IfOk result (λ value. value ≡ unescaped_from false text) }
-{
-    if !text.as_slice().contains(&b'\\') {
-        return Ok(text);
-    }
-    let value = unescape(alloc, text.as_slice())?;
-    let value = Bytes::from_vec(value)?;
-    Ok(value)
+/// The value of a parameter: a part of the item, or what a part spells that has backslashes.
+#[derive(Drop)]
+pub(crate) enum ParamValue {
+    Part(Span),
+    Spelled(Bytes),
 }
 
-// Takes a PARAM-VALUE and the quote behind it.
-pub(crate) fn take_value(alloc: Global, text: &mut Bytes) -> Result<Option<Bytes>, AllocError>
-    ensures { TryTakes IsValue text.old text.new result }
+// The value that a part of the item spells. It is the part itself, where that has no backslash.
+fn spelled_value(alloc: Global, text: &[u8], span: Span) -> Result<ParamValue, AllocError>
+    ensures value { IfOk result (SpellsPart text.now span) }
+    ensures within { IfOk result
+        (λ value. (end : ℕ) → IsWithin end span → IsValueWithin end value) }
+{
+    if !text.contains(&b'\\') {
+        return Ok(ParamValue::Part(span));
+    }
+    let value = unescape(alloc, text)?;
+    Ok(ParamValue::Spelled(Bytes::from_vec(value)?))
+}
+
+// Takes a PARAM-VALUE that may have backslashes, and the quote behind it.
+fn take_spelled(
+    alloc: Global,
+    text: &mut Bytes,
+    end: usize,
+) -> Result<Option<ParamValue>, AllocError>
+    requires { length text.old ≤ end }
+    ensures value { IfOk result
+        (λ found. TakesSaid value_said IsValue end text.old text.new found) }
+    ensures within { IfOk result (λ found. IfSome found (IsValueWithin end)) }
+    ensures shorter { length text.new ≤ length text.old }
 {
     let Some(place) = quote_place(text.as_slice()) else {
         return Ok(None);
     };
-    let spelled = text.split_to(place)?;
-    text.advance(1);
-    let value = spelled_value(alloc, spelled)?;
+    let from = end - text.len();
+    let span = Span {
+        from,
+        to: from + place,
+    };
+    let value = spelled_value(alloc, &text.as_slice()[..place], span)?;
+    text.advance(place + 1);
     Ok(Some(value))
+}
+
+fn is_plain(byte: u8) -> bool
+    ensures { result ≡ is_plain byte }
+{
+    !is_escaped(byte)
+}
+
+fn plain_len(text: &[u8]) -> usize
+    ensures value { result ≡ prefix_len is_plain text.now }
+    ensures within { result ≤ length text.now }
+{
+    text.iter().take_while(|byte| is_plain(**byte)).count()
+}
+
+// The place of the closing quote, where nothing that needs a backslash stands before it.
+fn plain_place(text: &[u8]) -> Option<usize>
+    ensures { IfSome result (EndsPlain text.now) }
+{
+    let place = plain_len(text);
+    if first_is(&text[place..], b'"') {
+        return Some(place);
+    }
+    None
+}
+
+// Takes a PARAM-VALUE and the quote behind it. Most have no backslash.
+pub(crate) fn take_value(
+    alloc: Global,
+    text: &mut Bytes,
+    end: usize,
+) -> Result<Option<ParamValue>, AllocError>
+    requires { length text.old ≤ end }
+    ensures value { IfOk result
+        (λ found. TakesSaid value_said IsValue end text.old text.new found) }
+    ensures within { IfOk result (λ found. IfSome found (IsValueWithin end)) }
+    ensures shorter { length text.new ≤ length text.old }
+{
+    let Some(place) = plain_place(text.as_slice()) else {
+        return take_spelled(alloc, text, end);
+    };
+    let span = take_span(text, end, place);
+    text.advance(1);
+    Ok(Some(ParamValue::Part(span)))
 }

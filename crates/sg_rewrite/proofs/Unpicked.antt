@@ -95,7 +95,7 @@ module _ (globs : List (List ℕ)) where
       ∙ ap (λ (ps : List NameValue). record old { put = ps }) (unpicked-step globs old.put pair (drop (place + 1) pairs) ∙ ap (λ (ps : List NameValue). old.put ++ unpicked globs ps) (sym (pair-next pairs place name value e)))
 
   pub made-anew : (content : Content) (build : Build) → IsAscending content.pairs →
-      build ≡ record { pri = content.pri; sent = content.sent; received = content.received; put = unpicked globs content.pairs; tags = content.tags } →
+      build ≡ record { pri = content.pri; sent = content.sent; received = content.received; item = []; put = unpicked globs content.pairs; tags = content.tags } →
       built build ≡ unset_each globs content.pairs content
   made-anew content build up is =
       ap (λ (b : Build). built b) is ∙ ap (λ (ps : List NameValue). record content { pairs = ps }) (set-unpicked globs content.pairs up) ∙ sym (unset-all globs content up)

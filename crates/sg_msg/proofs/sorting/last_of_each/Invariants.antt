@@ -1,10 +1,10 @@
-use Rattle.std.proofs.Common.{◌≡◌, [], deque_len}
+use Rattle.std.proofs.Common.{◌≡◌, [], take}
 use Rattle.sg_msg.specs.Sorting.{put_each}
+use Rattle.sg_msg.specs.Parts.{pairs_of, AreInTexts}
 use Rattle.sg_msg.proofs.sorting.last_of_each.Given as goal
 
--- the pairs that are left make of what is kept what all of them make of none
+-- the pairs so far are put, and they stand in the texts
 abbrev pub invariant-loop-pair : goal.invariant-loop-pair
-invariant-loop-pair l = put_each l.rest.items l.kept.items ≡ put_each l.fn.pairs.items []
-
-abbrev pub decreases-loop-pair : goal.decreases-loop-pair
-decreases-loop-pair l = deque_len l.rest
+invariant-loop-pair l =
+    (pairs_of l.texts l.kept.items ≡ put_each (pairs_of l.texts (take l.pair-index l.pairs)) [])
+    × (AreInTexts l.texts l.pairs → AreInTexts l.texts l.kept.items)

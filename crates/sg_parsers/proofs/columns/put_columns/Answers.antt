@@ -15,7 +15,7 @@ returns-then-end-len c =
     let name = c.index-names-place-in-loop-place.result in
     let lt : place < length csv.names = omega (arith, c.loop-place-test.true, ap length c.as_slice-names.ensures) in
     let name-is : name ≡ get_or csv.names place name = c.index-names-place-in-loop-place.is ∙ ap (λ (ns : List (List ℕ)). get_or ns place name) c.as_slice-names.ensures in
-    let end-is : c.in_ok-end.end ≡ at + field_len csv.delimiters (drop at text) = c.in_ok-end.ensures.end ∙ ap (λ (d : List ℕ). at + field_len d (drop at text)) c.bytes.ensures in
+    let end-is : c.in_ok-end.end ≡ at + field_len csv.delimiters (drop at text) = c.in_ok-end.ensures.end ∙ ap (λ (d : List ℕ). at + field_len d (drop at text)) c.bytes-in-loop-place.ensures in
     let over : c.in_ok-end.end ≡ length text = omega (arith, c.if-end-len.true, c.len-in-loop-place.ensures.value) in
     let none = behind-none csv.delimiters text at c.in_ok-end.end end-is c.loop-place.invariant.within over in
     let one = end-columns csv.delimiters csv.greedy csv.names place name (drop at text) lt name-is
@@ -23,6 +23,6 @@ returns-then-end-len c =
       | else-csv-via-then-csv+else-place-names w ↦ λ g e. absurd (omega (arith, w.if-place-names.false, e, ap length c.as_slice-names.ensures))
       | else-csv-via-else-csv w ↦ λ g e. absurd (cc)
     ]) none in
-    let message = c.loop-place.message in
-    c.in_ok-end.ensures.pair ∙ ap (λ (d : List ℕ). record message { pairs = with_pair name (column_value d false (drop at text)) message.pairs }) c.bytes.ensures
-    ∙ sym (ap (λ (ps : List NameValue). record message { pairs = with_all ps message.pairs }) one) ∙ c.loop-place.invariant.made
+    let draft = c.loop-place.draft in
+    c.in_ok-end.ensures.pair ∙ ap (λ (d : List ℕ). record draft { message = record draft.message { pairs = with_pair name (column_value d false (drop at text)) draft.message.pairs } }) c.bytes-in-loop-place.ensures
+    ∙ sym (ap (λ (ps : List NameValue). record draft { message = record draft.message { pairs = with_all ps draft.message.pairs } }) one) ∙ c.loop-place.invariant.made
