@@ -201,7 +201,7 @@ for names, says, files in re.findall(r"^\| (.+) \| (.+) \| ((?:`sg_\w+/[^`|]+`(?
     expect(f"names of a clause: {names[:60]}", {name for span in re.findall(r"`([^`]+)`", names) for name in re.findall(r"\w+", span)} - there)
 
 # and so do the lines of the headline's record that README.md quotes
-headline = "crates/sg_one_run/specs/Headline.antt"
+headline = "crates/sg_laws/specs/Headline.antt"
 table_rows = re.findall(r"^\| [^|]+ \| (.+) \|$", re.search(r"\| phrase \|.*?\n\n", read("README.md"), re.S).group(0), re.M)[1:]
 quoted = [text for row in table_rows for text in re.findall(r"`([^`]+)`", row) if " " in text and not text.startswith("run ")]
 expect("quotations of README.md", [text for text in quoted if not stands_in(text, headline)])

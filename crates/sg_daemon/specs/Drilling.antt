@@ -2,7 +2,7 @@
 use Rattle.std.specs.Prelude.{◌≡◌, ℕ, Result, Ok, Err}
 use Rattle.std.specs.declared.alloc.AllocError.{AllocError}
 use Rattle.sg_outside.specs.World.{WorldState}
-use Rattle.sg_drilled.specs.Drilling.{Drills}
+use Rattle.sg_daemon.specs.Drilled.{Drills}
 use Rattle.sg_run.specs.declared.end.Outcome.{Outcome}
 use Rattle.sg_daemon.specs.Said.{ConcludesCommand}
 use Rattle.sg_daemon.specs.declared.status.Status.{Status}

@@ -7,6 +7,7 @@ pub mod Checking
 pub mod Running
 pub mod Spooled
 pub mod Tracing
+pub mod Drilled
 pub mod Drilling
 pub mod Answers
 pub mod Offline

@@ -2,6 +2,7 @@
 ghost use Rattle.std.specs.Prelude.{◌≤◌};
 ghost use Rattle.sg_daemon.specs.Drilling.{DrillsCommand};
 
+use crate::drilled::run_drill;
 use crate::run::tell_outcome;
 use crate::status::Status;
 use sg_world::World;
@@ -19,7 +20,7 @@ pub fn drill<T: Threads + Wait + Eprint + Sync, W: World>(
     requires records { records ≤ 100000 }
     ensures { DrillsCommand (W.state world.old) (W.state world.new) records result }
 {
-    match sg_drilled::drill(rt, alloc, records) {
+    match run_drill(rt, alloc, records) {
         Ok(outcome) => tell_outcome(alloc, outcome, world),
         Err(_) => Status::NoMemory,
     }

@@ -4,6 +4,7 @@
 mod check;
 mod checked;
 mod drill;
+mod drilled;
 mod held;
 mod laws;
 mod run;

@@ -21,11 +21,11 @@ use Rattle.sg_serve.specs.declared.ending.PlanEnded.TheVariants.{Before, Ran}
 use Rattle.sg_run_plan.specs.declared.plan.RunPlan.{RunPlan}
 use Rattle.sg_turns.specs.declared.ended.Ended.{Ended}
 use Rattle.sg_turns.specs.declared.ended.Ended.TheVariants.{Quiet, RoundsSpent as Spent, NoMemory}
-use Rattle.sg_many_runs.specs.Adding.{position_in}
-use Rattle.sg_many_runs.specs.PlanRuns.{EndsWell, PlanRunsFollow, PlanRunsAddUp}
-use Rattle.sg_many_runs.specs.PlanRuns.{Opened as PlanOpened}
-use Rattle.sg_many_runs.specs.Fresh.{new_stores, NewAreCovered, PlanRunsStayCovered, AllEndWell, PlanRunsTakeOnce}
-use Rattle.sg_many_runs.specs.Happened.{held_by}
+use Rattle.sg_laws.specs.Adding.{position_in}
+use Rattle.sg_laws.specs.PlanRuns.{EndsWell, PlanRunsFollow, PlanRunsAddUp}
+use Rattle.sg_laws.specs.PlanRuns.{Opened as PlanOpened}
+use Rattle.sg_laws.specs.Fresh.{new_stores, NewAreCovered, PlanRunsStayCovered, AllEndWell, PlanRunsTakeOnce}
+use Rattle.sg_laws.specs.Happened.{held_by}
 use Rattle.sg_run.specs.Adding.{ConfigRun, ConfigRunOf, Opened, Unopened, plan_run, run_of, ConfigRunsFollow, IsClean, ConfigRunsAddUp}
 use Rattle.sg_run.specs.Fresh.{NewConfigRunsAddUp, ConfigRunsStayCovered, ReturnsClean, AllReturnClean, ConfigRunsTakeOnce}
 use Rattle.sg_run.specs.Ends.{quiet_end, end_after, early_end}

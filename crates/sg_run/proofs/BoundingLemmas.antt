@@ -32,8 +32,8 @@ use Rattle.sg_serve.specs.declared.ending.PlanEnded.{PlanEnded}
 use Rattle.sg_serve.specs.declared.ending.PlanEnded.TheVariants.{Before, Ran}
 use Rattle.sg_run_plan.specs.declared.plan.RunPlan.{RunPlan}
 use Rattle.sg_turns.specs.declared.ended.Ended.TheVariants.{Quiet, RoundsSpent as Spent, NoMemory as Starved}
-use Rattle.sg_one_run.specs.Bounds.{given_rounds, IsFew}
-use Rattle.sg_one_run.proofs.RiseLemmas.{inlet-rose, outlet-rose}
+use Rattle.sg_laws.specs.Bounds.{given_rounds, IsFew}
+use Rattle.sg_laws.proofs.RiseLemmas.{inlet-rose, outlet-rose}
 use Rattle.sg_run.specs.Bounding.{AreStoresSpelled, HoldsBackWell, GoesWell, Completes}
 use Rattle.sg_run.specs.Causes.{FailsThrice, RoseIn, FaultsAreDue, IsHeldFor, HasFailedBehind, RestsAreDue, AreCausesDue}
 use Rattle.sg_run.specs.Ends.{quiet_end, end_after, early_end}

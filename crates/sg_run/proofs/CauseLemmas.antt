@@ -29,12 +29,12 @@ use Rattle.sg_serve.specs.declared.counts.Counts.{Counts}
 use Rattle.sg_serve.specs.declared.ending.PlanEnded.{PlanEnded}
 use Rattle.sg_serve.specs.declared.ending.PlanEnded.TheVariants.{Before, Ran}
 use Rattle.sg_run_plan.specs.declared.plan.RunPlan.{RunPlan}
-use Rattle.sg_one_run.proofs.PreludeLemmas.{get-back}
-use Rattle.sg_one_run.specs.Failing.{AreUsed, FailedStoresCount}
+use Rattle.sg_laws.proofs.PreludeLemmas.{get-back}
+use Rattle.sg_laws.specs.Failing.{AreUsed, FailedStoresCount}
 use Rattle.sg_run.specs.Causes.{FailsThrice, RoseIn, AreCausesDue}
 use Rattle.sg_run.proofs.RestDueLemmas.{rests-due}
-use Rattle.sg_one_run.proofs.FactLemmas.{for-outlet}
-use Rattle.sg_one_run.proofs.FailingLemmas.{marked}
+use Rattle.sg_laws.proofs.FactLemmas.{for-outlet}
+use Rattle.sg_laws.proofs.FailingLemmas.{marked}
 
 -- Once a destination is given up for its outlet, the outlet's count of faults rose.
 record CountRises (first : OutletState) (s : DestState) : Type 0 where

@@ -16,13 +16,13 @@ use Rattle.sg_serve.specs.declared.ending.PlanEnded.{PlanEnded}
 use Rattle.sg_serve.specs.declared.ending.PlanEnded.TheVariants.{Before, Ran}
 use Rattle.sg_run_plan.specs.declared.plan.RunPlan.{RunPlan}
 use Rattle.sg_turns.specs.declared.ended.Ended.TheVariants.{Quiet, RoundsSpent as Spent, NoMemory}
-use Rattle.sg_one_run.proofs.PreludeLemmas.{get-back}
-use Rattle.sg_many_runs.specs.Covered.{Pass, Delivery, Covered}
-use Rattle.sg_many_runs.specs.Adding.{offers_in}
-use Rattle.sg_many_runs.specs.Happened.{AllTell, AreOfFiles, TellFiles, EachChoice, files_of, PlanRunsHappen, PlanRunsCover}
-use Rattle.sg_many_runs.specs.Clean.{AreFilesByLines, PlanRunsEndClean}
-use Rattle.sg_many_runs.specs.Rest.{PlanRunsRest}
-use Rattle.sg_many_runs.proofs.HappenedLemmas.{happened-too}
+use Rattle.sg_laws.proofs.PreludeLemmas.{get-back}
+use Rattle.sg_laws.specs.Covered.{Pass, Delivery, Covered}
+use Rattle.sg_laws.specs.Adding.{offers_in}
+use Rattle.sg_laws.specs.Happened.{AllTell, AreOfFiles, TellFiles, EachChoice, files_of, PlanRunsHappen, PlanRunsCover}
+use Rattle.sg_laws.specs.Clean.{AreFilesByLines, PlanRunsEndClean}
+use Rattle.sg_laws.specs.Rest.{PlanRunsRest}
+use Rattle.sg_laws.proofs.HappenedLemmas.{happened-too}
 use Rattle.sg_run.specs.Covering.{CleanSo, Covers}
 use Rattle.sg_run.specs.Meaning.{paths_of, AreRouters}
 use Rattle.sg_run.specs.Run.{offers_by}

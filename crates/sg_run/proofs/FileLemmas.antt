@@ -33,9 +33,9 @@ use Rattle.sg_plan.specs.Plans.{IsPlan}
 use Rattle.sg_plan.specs.Reading.{IsDriverRead, AreDriversRead}
 use Rattle.sg_config.specs.Means.{Means}
 use Rattle.sg_config.specs.declared.config.Config.{Config}
-use Rattle.sg_many_runs.specs.Covered.{IsFile}
-use Rattle.sg_many_runs.specs.Fresh.{HasLimit, HaveLimits}
-use Rattle.sg_many_runs.specs.Happened.{IsOfFile}
+use Rattle.sg_laws.specs.Covered.{IsFile}
+use Rattle.sg_laws.specs.Fresh.{HasLimit, HaveLimits}
+use Rattle.sg_laws.specs.Happened.{IsOfFile}
 use Rattle.sg_run.specs.Covering.{ReadsFiles}
 use Rattle.sg_run.specs.Meaning.{planned}
 

@@ -4,11 +4,11 @@ use Rattle.sg_machine.specs.declared.event.Event.{Event}
 use Rattle.sg_machine.specs.declared.state.State.{State}
 use Rattle.sg_tree.specs.Offers.{Woods, AreOffers}
 use Rattle.sg_pipes.specs.declared.pipes.Pipes.{Pipes}
-use Rattle.sg_one_run.specs.Texts.{taken_from, TakesFirstTexts}
+use Rattle.sg_laws.specs.Texts.{taken_from, TakesFirstTexts}
 use Rattle.sg_serve.specs.Run.{CoreRun, Reached}
 use Rattle.sg_run_plan.specs.declared.plan.RunPlan.{RunPlan}
-use Rattle.sg_one_run.specs.Headline.{frame_at, records_of, TakesPrefixes, Headline, Delivers}
-use Rattle.sg_one_run.proofs.PreludeLemmas.{get-back}
+use Rattle.sg_laws.specs.Headline.{frame_at, records_of, TakesPrefixes, Headline, Delivers}
+use Rattle.sg_laws.proofs.PreludeLemmas.{get-back}
 use Rattle.sg_run.specs.Meaning.{paths_of}
 use Rattle.sg_run.specs.Run.{offers_by}
 

@@ -26,7 +26,7 @@ use Rattle.sg_serve.specs.declared.counts.Counts.{Counts}
 use Rattle.sg_serve.specs.declared.ending.PlanEnded.{PlanEnded}
 use Rattle.sg_serve.specs.declared.ending.PlanEnded.TheVariants.{Before, Ran}
 use Rattle.sg_run_plan.specs.declared.plan.RunPlan.{RunPlan}
-use Rattle.sg_one_run.specs.Headline.{Headline, Delivers}
+use Rattle.sg_laws.specs.Headline.{Headline, Delivers}
 use Rattle.sg_config.specs.declared.config.Config.{Config}
 use Rattle.sg_run.specs.Outcomes.{HasLines, HasLinesAt, AreReportRows}
 use Rattle.sg_run.specs.Meaning.{planned}

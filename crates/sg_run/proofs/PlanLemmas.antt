@@ -20,7 +20,7 @@ use Rattle.sg_loaded.specs.Compiling.{Compiles}
 use Rattle.sg_serve.specs.Devices.{AreFetching}
 use Rattle.sg_serve.specs.Overflows.{AreOverflowsWithin}
 use Rattle.sg_serve.specs.Plan.{IsRunnable, AllKnow}
-use Rattle.sg_one_run.specs.Failing.{AreUsed}
+use Rattle.sg_laws.specs.Failing.{AreUsed}
 use Rattle.sg_run.specs.Meaning.{planned, paths_of, paths_in, AreRouters}
 use Rattle.sg_run.specs.Run.{inlets_by, dests_by}
 

@@ -13,7 +13,7 @@ use Rattle.sg_msg.specs.declared.offer.Offer.{Offer}
 use Rattle.sg_frame.specs.Records.{Record}
 use Rattle.sg_actor.specs.declared.dest.DestActor.{DestActor}
 use Rattle.sg_turns.specs.declared.ended.Ended.{Ended}
-use Rattle.sg_one_run.proofs.FailingLemmas.{marked}
+use Rattle.sg_laws.proofs.FailingLemmas.{marked}
 use Rattle.sg_serve.specs.Counts.{gave_up_outlet, numbers_from, first_fault}
 use Rattle.sg_serve.specs.declared.counts.Fault.TheVariants.{Sink, Disk, Inlet as InletFault}
 use Rattle.sg_serve.specs.Exits.{Out, present}

@@ -11,8 +11,8 @@ use Rattle.sg_serve.specs.declared.ending.PlanEnded.{PlanEnded}
 use Rattle.sg_serve.specs.declared.ending.PlanEnded.TheVariants.{Before, Ran}
 use Rattle.sg_run_plan.specs.declared.plan.RunPlan.{RunPlan}
 use Rattle.sg_turns.specs.declared.ended.Ended.TheVariants.{Quiet, RoundsSpent as Spent, NoMemory}
-use Rattle.sg_one_run.specs.Resting.{QuietRunsRest}
-use Rattle.sg_one_run.specs.Ending.{CleanRunsEnd}
+use Rattle.sg_laws.specs.Resting.{QuietRunsRest}
+use Rattle.sg_laws.specs.Ending.{CleanRunsEnd}
 use Rattle.sg_run.specs.Resting.{RestsSo}
 
 module _ {R I O : Type 0} (feed : I → InletState) (drain : O → OutletState) (offers : R → ℕ → Record → List Offer → Type 0) (inlets dests : R → ℕ) (old new : WorldState) (plan : RunPlan) (routers : List R) (rounds : ℕ) (reached : Reached)

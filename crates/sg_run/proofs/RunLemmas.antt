@@ -12,14 +12,14 @@ use Rattle.sg_loaded.specs.declared.loaded.Unloaded.{Unloaded}
 use Rattle.sg_loaded.specs.declared.loaded.Unloaded.TheVariants.{Bad, Unread, NoMemory}
 use Rattle.sg_serve.specs.Run.{RunsPlan}
 use Rattle.sg_serve.specs.declared.ending.PlanEnded.{PlanEnded}
-use Rattle.sg_one_run.specs.Headline.{RunsDeliver}
-use Rattle.sg_one_run.specs.Failing.{FailedStoresCount}
-use Rattle.sg_one_run.specs.Resting.{QuietRunsRest}
-use Rattle.sg_one_run.specs.Ending.{CleanRunsEnd}
-use Rattle.sg_one_run.specs.Bounds.{recovered_by, offered_by, RunsAreBounded}
-use Rattle.sg_many_runs.specs.Happened.{PlanRunsHappen, PlanRunsCover}
-use Rattle.sg_many_runs.specs.Clean.{PlanRunsEndClean}
-use Rattle.sg_many_runs.specs.Rest.{PlanRunsRest}
+use Rattle.sg_laws.specs.Headline.{RunsDeliver}
+use Rattle.sg_laws.specs.Failing.{FailedStoresCount}
+use Rattle.sg_laws.specs.Resting.{QuietRunsRest}
+use Rattle.sg_laws.specs.Ending.{CleanRunsEnd}
+use Rattle.sg_laws.specs.Bounds.{recovered_by, offered_by, RunsAreBounded}
+use Rattle.sg_laws.specs.Happened.{PlanRunsHappen, PlanRunsCover}
+use Rattle.sg_laws.specs.Clean.{PlanRunsEndClean}
+use Rattle.sg_laws.specs.Rest.{PlanRunsRest}
 use Rattle.sg_run.specs.Covering.{ReadsFiles}
 use Rattle.sg_run.specs.Meaning.{planned, paths_in, drivers_in, AreRouters}
 use Rattle.sg_run.specs.Outcomes.{TellsOutcome, PlanEndsBy, EndsSo, AreReportRows, HasLinesAt}

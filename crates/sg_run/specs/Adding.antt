@@ -12,11 +12,11 @@ use Rattle.sg_config.specs.Means.{Means}
 use Rattle.sg_config.specs.declared.config.Config.{Config}
 use Rattle.sg_loaded.specs.declared.loaded.Unloaded.{Unloaded}
 use Rattle.sg_serve.specs.Run.{CoreRun}
-use Rattle.sg_many_runs.specs.Covered.{Pass, Delivery, Covered}
-use Rattle.sg_many_runs.specs.Adding.{offers_in, position_in}
-use Rattle.sg_many_runs.specs.Happened.{AreListsBy, held_by, TellFiles, files_of}
-use Rattle.sg_many_runs.specs.PlanRuns.{StopsWithin, StopsThen, PlanRun, TellThese, UnopenedRun, StopsUnopened, RunOf, Lengthen, PlanRunsSum}
-use Rattle.sg_many_runs.specs.PlanRuns.{Opened as PlanOpened, Unopened as PlanUnopened}
+use Rattle.sg_laws.specs.Covered.{Pass, Delivery, Covered}
+use Rattle.sg_laws.specs.Adding.{offers_in, position_in}
+use Rattle.sg_laws.specs.Happened.{AreListsBy, held_by, TellFiles, files_of}
+use Rattle.sg_laws.specs.PlanRuns.{StopsWithin, StopsThen, PlanRun, TellThese, UnopenedRun, StopsUnopened, RunOf, Lengthen, PlanRunsSum}
+use Rattle.sg_laws.specs.PlanRuns.{Opened as PlanOpened, Unopened as PlanUnopened}
 use Rattle.sg_run.specs.Meaning.{planned, AreRouters}
 use Rattle.sg_run.specs.Run.{offers_by, RunsBy}
 use Rattle.sg_run.specs.declared.end.End.TheVariants.{Clean}

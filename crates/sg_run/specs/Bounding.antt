@@ -13,7 +13,7 @@ use Rattle.sg_overflow.specs.Line.{AreStored}
 use Rattle.sg_serve.specs.Exits.{Out, stores_in}
 use Rattle.sg_serve.specs.Run.{Reached, RoseAt}
 use Rattle.sg_run_plan.specs.declared.plan.RunPlan.{RunPlan}
-use Rattle.sg_one_run.specs.Bounds.{given_rounds, RunsUntroubled}
+use Rattle.sg_laws.specs.Bounds.{given_rounds, RunsUntroubled}
 use Rattle.sg_run.specs.declared.end.End.TheVariants.{Clean}
 use Rattle.sg_run.specs.declared.end.Outcome.{Outcome}
 

@@ -10,10 +10,10 @@ use Rattle.sg_run_plan.specs.declared.plan.RunPlan.{RunPlan}
 use Rattle.sg_turns.specs.declared.ended.Ended.TheVariants.{Quiet, RoundsSpent as Spent, NoMemory}
 use Rattle.sg_msg.specs.declared.offer.Offer.{Offer}
 use Rattle.sg_frame.specs.Records.{Record}
-use Rattle.sg_many_runs.specs.Covered.{Pass, Delivery, Offers, Covered}
-use Rattle.sg_many_runs.specs.Adding.{offers_in, EndsClean}
-use Rattle.sg_many_runs.specs.Happened.{AllTell, AreOfFiles, TellFiles, EachChoice, files_of, Happened, LeavesCovered}
-use Rattle.sg_many_runs.specs.Clean.{AreFilesByLines}
+use Rattle.sg_laws.specs.Covered.{Pass, Delivery, Offers, Covered}
+use Rattle.sg_laws.specs.Adding.{offers_in, EndsClean}
+use Rattle.sg_laws.specs.Happened.{AllTell, AreOfFiles, TellFiles, EachChoice, files_of, Happened, LeavesCovered}
+use Rattle.sg_laws.specs.Clean.{AreFilesByLines}
 use Rattle.sg_run.specs.Meaning.{planned}
 
 -- each inlet with a stored position is that of a file, and is read by lines

@@ -7,9 +7,9 @@ use Rattle.sg_machine.specs.Runs.{BufferedEntry}
 use Rattle.sg_pipes.specs.declared.pipes.Pipes.{Pipes}
 use Rattle.sg_config.specs.Means.{Means}
 use Rattle.sg_config.specs.declared.config.Config.{Config}
-use Rattle.sg_many_runs.specs.Happened.{AreListsBy}
-use Rattle.sg_many_runs.specs.PlanRuns.{StopsThen, PlanRunsSum}
-use Rattle.sg_many_runs.specs.Fresh.{new_stores, images_left, PlanRunsLeave, PlanRunsOnce}
+use Rattle.sg_laws.specs.Happened.{AreListsBy}
+use Rattle.sg_laws.specs.PlanRuns.{StopsThen, PlanRunsSum}
+use Rattle.sg_laws.specs.Fresh.{new_stores, images_left, PlanRunsLeave, PlanRunsOnce}
 use Rattle.sg_run.specs.Adding.{ConfigRun, plan_run, ConfigRunOf, Opened, run_of, ConfigRunsFollow, IsClean}
 use Rattle.sg_run.specs.Meaning.{planned, AreRouters}
 

@@ -9,8 +9,8 @@ use Rattle.sg_serve.specs.declared.ending.PlanEnded.{PlanEnded}
 use Rattle.sg_serve.specs.declared.ending.PlanEnded.TheVariants.{Before, Ran}
 use Rattle.sg_run_plan.specs.declared.plan.RunPlan.{RunPlan}
 use Rattle.sg_turns.specs.declared.ended.Ended.TheVariants.{Quiet, RoundsSpent as Spent, NoMemory}
-use Rattle.sg_one_run.specs.Resting.{RunRests}
-use Rattle.sg_one_run.specs.Ending.{EndsRounds}
+use Rattle.sg_laws.specs.Resting.{RunRests}
+use Rattle.sg_laws.specs.Ending.{EndsRounds}
 
 -- Behind a quiet round nothing is left to do; and where nothing failed either, all input was taken, and all that was kept was delivered.
 pub record IsQuietRun {R : Type 0} (offers : R → ℕ → Record → List Offer → Type 0) (plan : RunPlan)

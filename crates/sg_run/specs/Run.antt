@@ -14,8 +14,8 @@ use Rattle.sg_loaded.specs.declared.loaded.Unloaded.{Unloaded}
 use Rattle.sg_loaded.specs.declared.loaded.Unloaded.TheVariants.{Bad, Unread, NoMemory}
 use Rattle.sg_serve.specs.Run.{Reached, RunsWith}
 use Rattle.sg_serve.specs.declared.ending.PlanEnded.{PlanEnded}
-use Rattle.sg_one_run.specs.Headline.{Delivers}
-use Rattle.sg_one_run.specs.Bounds.{recovered_by, offered_by, IsFew}
+use Rattle.sg_laws.specs.Headline.{Delivers}
+use Rattle.sg_laws.specs.Bounds.{recovered_by, offered_by, IsFew}
 use Rattle.sg_run.specs.Bounding.{Completes}
 use Rattle.sg_run.specs.Causes.{AreCausesDue}
 use Rattle.sg_run.specs.Covering.{Covers}

@@ -4,7 +4,7 @@ ghost use Rattle.sg_run.specs.Fresh.{NewConfigRunsAddUp, ConfigRunsStayCovered, 
 ghost use Rattle.sg_serve.specs.Exits.{way_of};
 
 use sg_config::texts_mean_one;
-use sg_many_runs::{
+use sg_laws::{
     new_stores_are_covered, plan_runs_add_up, plan_runs_stay_covered, plan_runs_take_once,
 };
 use sg_pipes::Pipes;

@@ -13,11 +13,11 @@ use crate::planning::{drivers_of, files_of, plan_of, routers_of};
 use crate::reporting::{ReportRows, outcome_of};
 use sg_config::{Config, texts_mean_one};
 use sg_device::NoMemory;
-use sg_loaded::{Loaded, Unloaded, load_file};
-use sg_many_runs::{plan_runs_cover, plan_runs_end_clean, plan_runs_happen, plan_runs_rest};
-use sg_one_run::{
-    clean_runs_end, failed_stores_count, quiet_runs_rest, runs_are_bounded, runs_deliver,
+use sg_laws::{
+    clean_runs_end, failed_stores_count, plan_runs_cover, plan_runs_end_clean, plan_runs_happen,
+    plan_runs_rest, quiet_runs_rest, runs_are_bounded, runs_deliver,
 };
+use sg_loaded::{Loaded, Unloaded, load_file};
 use sg_pipes::Pipes;
 use sg_serve::run_plan;
 use sg_table::Table;

@@ -1,0 +1,7 @@
+use Rattle.sg_laws.proofs.RunLemmas.{covers}
+use Rattle.sg_serve.specs.Exits.{way_of}
+use Rattle.sg_laws.proofs.covering.plan_runs_cover.Goals as goal
+
+pub returns : goal.returns
+returns g c = covers g.W.Feed.Inlet.state (way_of g.W.Drain.Outlet.state g.W.Paths.Opener.state g.W.Store.Disk.state) g.R.Router.offers g.R.Router.inlets g.R.Router.dests
+    (record { now = c.images_are_safe.ensures; between = c.images_between_are_safe.ensures })

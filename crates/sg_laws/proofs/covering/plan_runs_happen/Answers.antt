@@ -1,0 +1,6 @@
+use Rattle.sg_laws.proofs.HappenedLemmas.{happens}
+use Rattle.sg_serve.specs.Exits.{way_of}
+use Rattle.sg_laws.proofs.covering.plan_runs_happen.Goals as goal
+
+pub returns : goal.returns
+returns g c = happens g.W.Feed.Inlet.state (way_of g.W.Drain.Outlet.state g.W.Paths.Opener.state g.W.Store.Disk.state) g.R.Router.offers g.R.Router.inlets g.R.Router.dests

@@ -1,5 +1,0 @@
-use Rattle.sg_many_runs.proofs.FreshLemmas.{new-covered}
-use Rattle.sg_many_runs.proofs.covering.new_stores_are_covered.Goals as goal
-
-pub returns : goal.returns
-returns g c = new-covered g.R.Router.offers c.lists_are_one.ensures

@@ -1,8 +1,0 @@
-use Rattle.sg_many_runs.proofs.AllLemmas.{plan-runs-add-up}
-use Rattle.sg_serve.specs.Exits.{way_of}
-use Rattle.sg_many_runs.proofs.covering.plan_runs_add_up.Goals as goal
-
-pub returns : goal.returns
-returns g c =
-    plan-runs-add-up g.W.Feed.Inlet.state (way_of g.W.Drain.Outlet.state g.W.Paths.Opener.state g.W.Store.Disk.state) g.R.Router.offers g.R.Router.inlets g.R.Router.dests
-    (record { now = c.images_are_safe.ensures; between = c.images_between_are_safe.ensures }) c.lists_are_one.ensures c.clean_runs_end.ensures

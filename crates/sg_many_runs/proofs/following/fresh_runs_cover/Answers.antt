@@ -1,6 +1,0 @@
-use Rattle.sg_many_runs.specs.Adding.{offers_in}
-use Rattle.sg_many_runs.proofs.OnceLemmas.{fresh-runs}
-use Rattle.sg_many_runs.proofs.following.fresh_runs_cover.Goals as goal
-
-pub returns : goal.returns
-returns g c setup = fresh-runs setup (offers_in g.R.Router.offers c.args.routers.now)

@@ -1,6 +1,0 @@
-use Rattle.sg_one_run.proofs.EndingLemmas.{clean-end}
-use Rattle.sg_serve.specs.Exits.{way_of}
-use Rattle.sg_one_run.proofs.resting.clean_runs_end.Goals as goal
-
-pub returns : goal.returns
-returns g c = clean-end g.W.Feed.Inlet.state (way_of g.W.Drain.Outlet.state g.W.Paths.Opener.state g.W.Store.Disk.state) g.R.Router.offers g.R.Router.inlets g.R.Router.dests

@@ -1,8 +1,0 @@
-use Rattle.sg_one_run.proofs.OwnEventLemmas.{opened-within, stay-within}
-use Rattle.sg_one_run.proofs.texts.windows_stay.Goals as goal
-
-pub returns-clause-opened : goal.returns-clause-opened
-returns-clause-opened c = opened-within
-
-pub returns-clause-kept : goal.returns-clause-kept
-returns-clause-kept c = stay-within
