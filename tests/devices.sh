@@ -30,6 +30,10 @@ run() {
     { cat said; sed 's/^[0-9T:+-]* //' told; echo "status $status"; } >got
 }
 
+# Words that lack a path.
+run send </dev/null
+expect 'no path' 'usage: test_devices send PATH [fsync] | turns PATH,PATH.. [fsync] | lines PATH | both PATH | pull PATH | read PATH | store PATH | look PATH\nstatus 1\n'
+
 # A FIFO is refused, and not waited for.
 mkfifo fifo
 for what in send lines pull read store; do

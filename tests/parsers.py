@@ -1,5 +1,5 @@
 #!/usr/bin/env python3
-"""Random texts through csv and kv parsers: what the program `test_parsers` says of them, beside what this script makes
+"""Random texts through csv and kv parsers: what the program `test_paths` says of them, beside what this script makes
 of them by the rules of docs/CONFIGURATION.md.
 
     tests/parsers.py COUNT [SEED]           compares, and ends with status 1 at the first that differs
@@ -7,7 +7,7 @@ of them by the rules of docs/CONFIGURATION.md.
     tests/parsers.py --beside [PROGRAM]     gives twenty records of each parser to syslogr and to syslog-ng, prints what each makes of
                                             them as docs/MIGRATION.md writes it, and ends with status 1 where it doesn't stand there
 
-crates/test_parsers/src/main.rt says how rows are written.
+crates/test_paths/src/parsers.rt says how rows are written.
 """
 import os
 import random
@@ -19,8 +19,8 @@ import tempfile
 import time
 
 TOP = os.path.dirname(os.path.dirname(os.path.abspath(__file__)))
-CRATE = os.path.join(TOP, "crates", "test_parsers")
-PROGRAM = os.path.join(CRATE, "out", "test_parsers")
+CRATE = os.path.join(TOP, "crates", "test_paths")
+PROGRAM = os.path.join(CRATE, "out", "test_paths")
 COLUMNS = ["A", "B", "C", "OLD", "HOST", "MESSAGE", "x.y", "PRI", "R_DATE"]
 HARD = {"PRI", "DATE", "R_DATE", "S_DAY", "TAGS"}
 KEY = "[A-Za-z0-9_.-]+"
@@ -101,7 +101,7 @@ def csv_row(chance):
     prefix = chance.choice(["", "", "p.", "S"])
     text = "".join(chance.choice(['"', '"', delimiters[0], ",", ";", " ", "a", "bc", '""', '","', "d"]) for _ in range(chance.randint(0, 12)))
     answer = "no parser" if any(prefix + column in HARD for column in columns) else said(text, csv(flags, delimiters, columns, prefix, text))
-    return f"csv {flags} ~ {delimiters} ~ {','.join(columns)} ~ {prefix} ~ {text}", answer
+    return f"parsers csv {flags} ~ {delimiters} ~ {','.join(columns)} ~ {prefix} ~ {text}", answer
 
 
 def kv_row(chance):
@@ -110,7 +110,7 @@ def kv_row(chance):
     prefix = chance.choice(["", "", "k.", "R_"])
     parts = ["a", "b", "OLD", "PRI", "DATE", "x-y", value_separator, value_separator, pair_separator, " ", "\t", '"', '"', "\\", '\\"', "\\\\", "+", "="]
     text = "".join(chance.choice(parts) for _ in range(chance.randint(0, 16)))
-    return f"kv - ~ {pair_separator} ~ {value_separator} ~ {prefix} ~ {text}", said(text, kv(pair_separator, value_separator, prefix, text)).replace("\t", "\\t")
+    return f"parsers kv - ~ {pair_separator} ~ {value_separator} ~ {prefix} ~ {text}", said(text, kv(pair_separator, value_separator, prefix, text)).replace("\t", "\\t")
 
 
 def row(chance):

@@ -183,7 +183,7 @@ def row(chance):
         if any(answers) and sum(one[0] for one in found) <= 1024 and all(one[2] <= 1024 for one in found):
             break
     parts = [part for one in tops for part in sibling_written(one, True)]
-    return "; ".join(parts) + " ~ 0 ~ " + "|".join(records), " | ".join(answers)
+    return "paths " + "; ".join(parts) + " ~ 0 ~ " + "|".join(records), " | ".join(answers)
 
 
 def program():

@@ -1,6 +1,12 @@
-//! Says what log paths offer for records. A line of standard input has log paths, the number of an inlet, and
-//! records with `|` between them, each after `~`; an offer is said as its destination, `w` where it is
-//! flow-controlled, `=` and MESSAGE. They are those of the tree, and those of its table where these are others.
+//! Says what log paths and parsers make of records, one row of standard input after the other. The first word of a row
+//! tells its kind:
+//!
+//! - `paths ..`: what log paths offer for records, as is said below.
+//! - `parsers ..`: what a parser makes of a message: the module `parsers` says how they are written.
+//!
+//! A row of `paths` has log paths, the number of an inlet, and records with `|` between them, each after `~`; an
+//! offer is said as its destination, `w` where it is flow-controlled, `=` and MESSAGE. They are those of the tree, and
+//! those of its table where these are others.
 //!
 //! Paths are said part after part, with `;` between them:
 //! - `has TEXT`, `is N`, `tagged TAG`: a filter; the message contains the text, meets what the filter of that
@@ -28,6 +34,7 @@ mod forest;
 mod gone;
 mod inlets;
 mod offers;
+mod parsers;
 mod plain;
 mod rules;
 mod table;
@@ -37,7 +44,7 @@ use sg_tree::{Forest, PathRefusal};
 use std::alloc::{AllocError, Global};
 use std::io;
 
-fn copied(alloc: Global, text: &[u8]) -> Result<Vec<u8>, AllocError> {
+pub(crate) fn copied(alloc: Global, text: &[u8]) -> Result<Vec<u8>, AllocError> {
     Vec::from_slice(alloc, text)
 }
 
@@ -76,9 +83,9 @@ fn told(alloc: Global, parts: &str, inlet: u32, records: &str) -> Result<Vec<u8>
     }
 }
 
-// What a line of standard input comes to.
-fn answer(alloc: Global, line: &str) -> Result<Vec<u8>, AllocError> {
-    let Some((parts, rest)) = line.split_once(" ~ ") else {
+// What log paths, an inlet and records come to.
+fn of_paths(alloc: Global, row: &str) -> Result<Vec<u8>, AllocError> {
+    let Some((parts, rest)) = row.split_once(" ~ ") else {
         return copied(alloc, b"no paths");
     };
     let Some((inlet, records)) = rest.split_once(" ~ ") else {
@@ -87,6 +94,16 @@ fn answer(alloc: Global, line: &str) -> Result<Vec<u8>, AllocError> {
     match inlet.parse::<u32>() {
         Ok(inlet) => told(alloc, parts, inlet, records),
         Err(_) => copied(alloc, b"no inlet"),
+    }
+}
+
+// What a line of standard input comes to.
+fn answer(alloc: Global, line: &str) -> Result<Vec<u8>, AllocError> {
+    let (kind, row) = line.split_once(' ').unwrap_or((line, ""));
+    match kind {
+        "paths" => of_paths(alloc, row),
+        "parsers" => parsers::answer(alloc, row),
+        _ => copied(alloc, b"no such row"),
     }
 }
 

@@ -1,5 +1,0 @@
-use Rattle.test_core_stores.proofs.Lengths.{commit_length}
-use Rattle.test_core_stores.proofs.stores.commit.Goals as goal
-
-pub returns : goal.returns
-returns c = commit_length c.args.stores.now c.commit.new.self 1 c.commit.result c.commit.ensures c.requires

@@ -1,5 +1,0 @@
-//! Tests of filters.
-#![tactic(auto)]
-
-#[cfg(test)]
-mod filters;

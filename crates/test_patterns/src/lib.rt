@@ -1,5 +1,0 @@
-//! Tests of patterns.
-#![tactic(auto)]
-
-#[cfg(test)]
-mod patterns;
