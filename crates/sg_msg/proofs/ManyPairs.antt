@@ -135,3 +135,20 @@ behind pair (next ∷ others) pairs below =
 pub all-ascending : (pairs : List NameValue) → IsAscending pairs → with_all pairs [] ≡ pairs
 all-ascending [] up = refl
 all-ascending (pair ∷ pairs) up = behind pair pairs [] up.0 ∙ ap (λ (l : List NameValue). pair ∷ l) (all-ascending pairs up.1)
+
+-- of two pairs with different names either may be set first
+pub commute : (p q : NameValue) (base : List NameValue) → p.name ≢ q.name → IsAscending base
+    → with_pair p.name p.value (with_pair q.name q.value base) ≡ with_pair q.name q.value (with_pair p.name p.value base)
+commute p q base differs up =
+    extensional _ _ (ascending-with p.name p.value (with_pair q.name q.value base) (ascending-with q.name q.value base up))
+    (ascending-with q.name q.value (with_pair p.name p.value base) (ascending-with p.name p.value base up)) (λ name. by name (same_or_not name p.name))
+  where
+    by : (name : List ℕ) → (name ≡ p.name) ⊎ (name ≢ p.name)
+        → value_of name (with_pair p.name p.value (with_pair q.name q.value base)) ≡ value_of name (with_pair q.name q.value (with_pair p.name p.value base))
+    by name (inl is) =
+        subst (λ (n : List ℕ). value_of n (with_pair p.name p.value (with_pair q.name q.value base)) ≡ value_of n (with_pair q.name q.value (with_pair p.name p.value base))) (sym is)
+        (value-with p.name p.value (with_pair q.name q.value base)
+        ∙ sym (value-with-other q.name q.value p.name differs (with_pair p.name p.value base) ∙ value-with p.name p.value base))
+    by name (inr other) =
+        value-with-other p.name p.value name other (with_pair q.name q.value base)
+        ∙ sym (value-one name q (with_pair p.name p.value base) base (value-with-other p.name p.value name other base))

@@ -1,37 +1,19 @@
 -- Two pairs beside each other may change places, where their names differ.
-use Rattle.std.proofs.Common.{◌≡◌, ◌≢◌, ◌<◌, ◌-◌, ◌≤◌, ℕ, zero, suc, ◌⊎◌, inl, inr, List, [], ◌∷◌, length, map, set, get_or, slice_set, refl, sym, ap, subst, ◌∙◌, arith}
+use Rattle.std.proofs.Common.{◌≡◌, ◌≢◌, ◌<◌, ◌-◌, ◌≤◌, ℕ, zero, suc, List, [], ◌∷◌, length, map, set, get_or, slice_set, refl, sym, ap, subst, ◌∙◌, arith}
 use Rattle.std.specs.List.{swap, All}
 use Rattle.std.specs.declared.cmp.Ordering.TheVariants.{Greater}
 use Rattle.std.proofs.lemmas.List.{map-set, get_or-map, length-map}
 use Rattle.std.proofs.lemmas.List.Elements.{All-set}
-use Rattle.sg_msg.specs.Message.{NameValue, byte_order, value_of, with_pair, with_all, IsAscending}
+use Rattle.sg_msg.specs.Message.{NameValue, byte_order, with_pair, with_all, IsAscending}
 use Rattle.sg_msg.specs.Parts.{name_in, pair_in, pairs_in, IsPairIn, AreIn}
 use Rattle.sg_msg.specs.declared.pair.Pair.{Pair}
 use Rattle.sg_msg.proofs.PartSearch.{text-is}
 use Rattle.sg_msg.proofs.ByteOrder.{test-same, test-greater}
 use Rattle.sg_msg.proofs.KeptPairs.{ascending-with}
-use Rattle.sg_msg.proofs.ValueLaws.{value-with, value-with-other}
-use Rattle.sg_msg.proofs.ManyPairs.{same_or_not, value-one, extensional}
+use Rattle.sg_msg.proofs.ManyPairs.{commute}
 
 differs-greater : (x y : List ℕ) → byte_order x y ≡ Greater → x ≢ y
 differs-greater x y greater e = let same = test-same x y e in let apart = test-greater x y greater in absurd (cc)
-
--- it makes no difference which of the two is set first
-commute : (p q : NameValue) (base : List NameValue) → p.name ≢ q.name → IsAscending base
-    → with_pair p.name p.value (with_pair q.name q.value base) ≡ with_pair q.name q.value (with_pair p.name p.value base)
-commute p q base differs up =
-    extensional _ _ (ascending-with p.name p.value (with_pair q.name q.value base) (ascending-with q.name q.value base up))
-    (ascending-with q.name q.value (with_pair p.name p.value base) (ascending-with p.name p.value base up)) (λ name. by name (same_or_not name p.name))
-  where
-    by : (name : List ℕ) → (name ≡ p.name) ⊎ (name ≢ p.name)
-        → value_of name (with_pair p.name p.value (with_pair q.name q.value base)) ≡ value_of name (with_pair q.name q.value (with_pair p.name p.value base))
-    by name (inl is) =
-        subst (λ (n : List ℕ). value_of n (with_pair p.name p.value (with_pair q.name q.value base)) ≡ value_of n (with_pair q.name q.value (with_pair p.name p.value base))) (sym is)
-        (value-with p.name p.value (with_pair q.name q.value base)
-        ∙ sym (value-with-other q.name q.value p.name differs (with_pair p.name p.value base) ∙ value-with p.name p.value base))
-    by name (inr other) =
-        value-with-other p.name p.value name other (with_pair q.name q.value base)
-        ∙ sym (value-one name q (with_pair p.name p.value base) base (value-with-other p.name p.value name other base))
 
 swapped : (pairs : List NameValue) (k : ℕ) (d : NameValue) (base : List NameValue) → IsAscending base → suc k < length pairs
     → byte_order (get_or pairs k d).name (get_or pairs (suc k) d).name ≡ Greater

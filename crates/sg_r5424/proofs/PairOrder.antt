@@ -1,11 +1,10 @@
 -- The pairs of a record are those of its header, of structured data and of MESSAGE, whichever are put first.
-use Rattle.std.proofs.Common.{◌≡◌, ◌≢◌, ℕ, false, ◌⊎◌, inl, inr, Option, None, Some, List, [], ◌∷◌, ◌++◌, take, codes, bytes_eq, refl, sym, ap, subst, ◌∙◌}
-use Rattle.sg_msg.specs.Message.{NameValue, value_of, with_pair, with_all, IsAscending}
+use Rattle.std.proofs.Common.{◌≡◌, ◌≢◌, ℕ, false, inl, inr, Option, None, Some, List, [], ◌∷◌, ◌++◌, take, codes, bytes_eq, refl, sym, ap, subst, ◌∙◌}
+use Rattle.sg_msg.specs.Message.{NameValue, with_pair, with_all, IsAscending}
 use Rattle.sg_msg.specs.Build.{some_pair}
 use Rattle.sg_msg.proofs.ByteOrder.{test-same}
 use Rattle.sg_msg.proofs.KeptPairs.{ascending-with}
-use Rattle.sg_msg.proofs.ValueLaws.{value-with, value-with-other}
-use Rattle.sg_msg.proofs.ManyPairs.{ascending-all, same_or_not, value-one, extensional, with_all-append}
+use Rattle.sg_msg.proofs.ManyPairs.{ascending-all, commute, with_all-append}
 use Rattle.sg_r3164.specs.declared.opts.ReadOpts.{ReadOpts}
 use Rattle.sg_r3164.specs.Options.{host_of}
 use Rattle.sg_r5424.specs.Grammar.{HeaderNames, unless_nil}
@@ -14,23 +13,6 @@ use Rattle.sg_r5424.specs.Data.Elements.{none, more}
 use Rattle.sg_r5424.specs.Is5424.{name_pairs, message_pair, put_in_order}
 use Rattle.sg_r5424.proofs.NamedValues.{AreData, not_named}
 use Rattle.sg_r5424.proofs.DataAgain.{element_data, data_both}
-
--- of two pairs with different names either may be set first
-commute : (p q : NameValue) (base : List NameValue) → p.name ≢ q.name → IsAscending base
-    → with_pair p.name p.value (with_pair q.name q.value base) ≡ with_pair q.name q.value (with_pair p.name p.value base)
-commute p q base differs up =
-    extensional _ _ (ascending-with p.name p.value (with_pair q.name q.value base) (ascending-with q.name q.value base up))
-    (ascending-with q.name q.value (with_pair p.name p.value base) (ascending-with p.name p.value base up)) (λ name. by name (same_or_not name p.name))
-  where
-    by : (name : List ℕ) → (name ≡ p.name) ⊎ (name ≢ p.name)
-        → value_of name (with_pair p.name p.value (with_pair q.name q.value base)) ≡ value_of name (with_pair q.name q.value (with_pair p.name p.value base))
-    by name (inl is) =
-        subst (λ (n : List ℕ). value_of n (with_pair p.name p.value (with_pair q.name q.value base)) ≡ value_of n (with_pair q.name q.value (with_pair p.name p.value base))) (sym is)
-        (value-with p.name p.value (with_pair q.name q.value base)
-        ∙ sym (value-with-other q.name q.value p.name differs (with_pair p.name p.value base) ∙ value-with p.name p.value base))
-    by name (inr other) =
-        value-with-other p.name p.value name other (with_pair q.name q.value base)
-        ∙ sym (value-one name q (with_pair p.name p.value base) base (value-with-other p.name p.value name other base))
 
 -- none of these pairs has the name
 abbrev HaveNone : List ℕ → List NameValue → Type 0
