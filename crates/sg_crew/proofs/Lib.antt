@@ -11,3 +11,4 @@ pub mod WorkLemmas
 pub mod TakeLemmas
 pub mod PoolLemmas
 pub mod TogetherLemmas
+pub mod LookLemmas

@@ -1,5 +1,7 @@
 // What is told of a run while it goes on.
-ghost use Rattle.std.specs.Prelude.{◌≡◌};
+ghost use Rattle.std.specs.Prelude.{◌≡◌, IfOk, map};
+ghost use Rattle.sg_hub.specs.Counts.{offered_to};
+ghost use Rattle.sg_crew.specs.Looks.{offered_by_both, offered_by_all, look_of_source, looks_of_dests};
 
 use crate::worker::Worker;
 use sg_actor::{DestActor, SourceActor};
@@ -49,7 +51,9 @@ pub trait Watch<W: Machine> {
         ensures { W.state world.new ≡ W.state world.old };
 }
 
-fn sum(one: Offered, other: Offered) -> Offered {
+fn sum(one: Offered, other: Offered) -> Offered
+    ensures { result ≡ offered_by_both one other }
+{
     Offered {
         kept: one.kept.saturating_add(other.kept),
         dropped_full: one.dropped_full.saturating_add(other.dropped_full),
@@ -57,13 +61,23 @@ fn sum(one: Offered, other: Offered) -> Offered {
     }
 }
 
+// What a source's offers to this destination came to.
+fn offered_by<A, D: Disk>(source: &Worker<A, D>, dest: usize) -> Offered
+    ensures { result ≡ offered_to dest source.now.passed.offered.items }
+{
+    if dest < source.passed.offered.len() {
+        return source.passed.offered[dest];
+    }
+    Offered::none()
+}
+
 // What all sources' offers to this destination came to.
-fn offered_to<A, D: Disk>(sources: &[Worker<A, D>], dest: usize) -> Offered {
+fn offered_to<A, D: Disk>(sources: &[Worker<A, D>], dest: usize) -> Offered
+    ensures { result ≡ offered_by_all dest sources.now }
+{
     let mut all = Offered::none();
     for source in sources {
-        if let Some(offered) = source.passed.offered.get(dest) {
-            all = sum(all, *offered);
-        }
+        all = sum(all, offered_by(source, dest));
     }
     all
 }
@@ -71,7 +85,9 @@ fn offered_to<A, D: Disk>(sources: &[Worker<A, D>], dest: usize) -> Offered {
 fn source_looks<R: Router + Drop, I: Inlet, D: Disk>(
     alloc: Global,
     sources: &[Worker<SourceActor<R, I>, D>],
-) -> Result<Vec<SourceLook>, AllocError> {
+) -> Result<Vec<SourceLook>, AllocError>
+    ensures { IfOk result (λ looks. looks.items ≡ map look_of_source sources.now) }
+{
     let mut looks = Vec::with_capacity(alloc, sources.len())?;
     for source in sources {
         looks.push(SourceLook {
@@ -89,7 +105,9 @@ fn dest_looks<A, O: Outlet, D: Disk>(
     alloc: Global,
     sources: &[Worker<A, D>],
     dests: &[Worker<DestActor<O>, D>],
-) -> Result<Vec<DestLook>, AllocError> {
+) -> Result<Vec<DestLook>, AllocError>
+    ensures { IfOk result (λ looks. looks.items ≡ looks_of_dests sources.now 0 dests.now) }
+{
     let mut looks = Vec::with_capacity(alloc, dests.len())?;
     for d in 0..dests.len() {
         let dest = &dests[d];

@@ -1,3 +1,4 @@
 pub mod Tellings
 pub mod Seated
 pub mod Crosses
+pub mod CountLemmas

@@ -43,12 +43,12 @@ goes-on hub old new [] m = subst (SeatGoesOn hub old []) (sym m) (stays hub old)
 goes-on hub old new (x ∷ made) m = goes-one hub old m.0 new x.call x.reply made m.1 (goes-on hub m.0 new made m.2)
 
 -- calls at a seat that is lent leave what is lent, with what counts at it, of that hub
-pub same-seat : {S N P : Type 0} (name : S → N) (passed : S → P) (hub : S → Bor HubState) (seat : S → SeatState) (old new : S) (made : List Exchange)
-    → Makes (λ (a : S) call reply (b : S). (name b ≡ name a) × (passed b ≡ passed a) × (hub b ≡ hub a) × SeatStep (hub a).now (seat a) call reply (seat b)) old made new
+pub same-seat : {S N P : Type 0} (name : S → N) (passed : S → P) (hub : S → Bor HubState) (seat : S → SeatState) (noted : S → CoreCall → CoreReply → S → Type 0) (old new : S) (made : List Exchange)
+    → Makes (λ (a : S) call reply (b : S). (name b ≡ name a) × (passed b ≡ passed a) × (hub b ≡ hub a) × SeatStep (hub a).now (seat a) call reply (seat b) × noted a call reply b) old made new
     → ((name new ≡ name old) × (passed new ≡ passed old)) × ((hub new ≡ hub old) × Makes (SeatStep (hub old).now) (seat old) made (seat new))
-same-seat name passed hub seat old new [] m = ((ap name m, ap passed m), (ap hub m, ap seat m))
-same-seat {S} name passed hub seat old new (x ∷ made) m =
-    let rest = same-seat name passed hub seat m.0 new made m.2 in (
+same-seat name passed hub seat noted old new [] m = ((ap name m, ap passed m), (ap hub m, ap seat m))
+same-seat {S} name passed hub seat noted old new (x ∷ made) m =
+    let rest = same-seat name passed hub seat noted m.0 new made m.2 in (
       (rest.0.0 ∙ m.1.0, rest.0.1 ∙ m.1.1),
       (rest.1.0 ∙ m.1.2, (seat m.0, m.1.3, subst (λ (h : Bor HubState). Makes (SeatStep h.now) (seat m.0) made (seat new)) m.1.2 rest.1.1)),
     )

@@ -1,4 +1,5 @@
 pub mod Offices
 pub mod Histories
 pub mod Seats
+pub mod Counts
 pub mod Laws

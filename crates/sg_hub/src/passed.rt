@@ -1,10 +1,11 @@
 // What has passed a seat so far.
-ghost use Rattle.std.specs.Prelude.{◌≡◌};
+ghost use Rattle.std.specs.Prelude.{◌≡◌, ◌≤◌, ◌<◌, ◌++◌, OnOk, OnErr, ℕ, length, map, option_copied, option_map};
+ghost use Rattle.sg_hub.specs.Counts.{none_offered, offered_to, counted, CountsOffer, CountsOffers, dests_of, HasPassedNone, HasBegun, HasEnded, HasAsked, HasStored, HasShown, CountsSettled, shown_by};
 
 use sg_counter::{CoreFront, Settled, Stored};
 use sg_device::NoMemory;
 use sg_machine::{Admission, Verdict};
-use sg_msg::Message;
+use sg_msg::{Message, Offer};
 use std::alloc::Global;
 
 /// What became of the offers to a destination so far.
@@ -18,7 +19,7 @@ pub struct Offered {
 impl Offered {
     /// Nothing was offered.
     pub fn none() -> Offered
-        ensures { result ≡ record { kept = 0; dropped_full = 0; dropped_disk = 0 } }
+        ensures { result ≡ none_offered }
     {
         Offered {
             kept: 0,
@@ -55,7 +56,7 @@ pub struct SeatCounts {
 impl SeatCounts {
     /// Nothing has. Takes no memory.
     pub fn new(alloc: Global) -> SeatCounts
-        ensures none { (result.records ≡ 0) × (result.taken ≡ 0) }
+        ensures none { HasPassedNone result }
     {
         SeatCounts {
             records: 0,
@@ -73,7 +74,9 @@ impl SeatCounts {
     }
 
     /// Notes how many records there are, and the destinations of their offers, none where there is no memory.
-    pub(crate) fn begin(&mut self, records: &[Admission]) {
+    pub(crate) fn begin(&mut self, records: &[Admission])
+        ensures { HasBegun records.now self.old self.new }
+    {
         self.brought = records.len();
         self.dests.clear();
         if list_dests(records, &mut self.dests).is_err() {
@@ -82,16 +85,17 @@ impl SeatCounts {
     }
 
     /// Counts these records, and what became of their offers.
-    pub(crate) fn end(&mut self, verdicts: &[Verdict]) {
+    pub(crate) fn end(&mut self, verdicts: &[Verdict])
+        ensures { HasEnded verdicts.now self.old self.new }
+    {
         self.records = self.records.saturating_add(self.brought as u64);
-        for at in 0..self.dests.len().min(verdicts.len()) {
-            let dest = self.dests[at];
-            count(dest as usize, verdicts[at], &mut self.offered);
-        }
+        count_all(&self.dests, verdicts, &mut self.offered);
     }
 
     /// Counts a question for the credit.
-    pub(crate) fn ask(&mut self, credit: u64) {
+    pub(crate) fn ask(&mut self, credit: u64)
+        ensures { HasAsked credit self.old self.new }
+    {
         self.full = credit == 0;
         if credit > 0 {
             self.eased = self.eased.saturating_add(1);
@@ -99,14 +103,18 @@ impl SeatCounts {
     }
 
     /// Takes note of a position that was written.
-    pub(crate) fn store(&mut self, stored: Stored) {
+    pub(crate) fn store(&mut self, stored: Stored)
+        ensures { HasStored stored self.old self.new }
+    {
         if let Stored::Wrote(position) = stored {
             self.stored = Some(position);
         }
     }
 
     /// Takes note of the first entries that are left.
-    pub(crate) fn show(&mut self, front: &Result<CoreFront, NoMemory>) {
+    pub(crate) fn show(&mut self, front: &Result<CoreFront, NoMemory>)
+        ensures { HasShown (shown_by front.now) self.old self.new }
+    {
         let messages = messages_of(front);
         self.oldest = received_at(messages.first());
         self.newest = received_at(messages.last());
@@ -114,7 +122,9 @@ impl SeatCounts {
     }
 
     /// Counts entries that were settled.
-    pub(crate) fn settle(&mut self, count: u32, settled: Settled) {
+    pub(crate) fn settle(&mut self, count: u32, settled: Settled)
+        ensures { CountsSettled settled count self.old self.new }
+    {
         if settled == Settled::NotFront {
             return;
         }
@@ -125,7 +135,9 @@ impl SeatCounts {
     }
 }
 
-fn messages_of(front: &Result<CoreFront, NoMemory>) -> &[Message] {
+fn messages_of(front: &Result<CoreFront, NoMemory>) -> &[Message]
+    ensures { result.now ≡ shown_by front.now }
+{
     match front {
         Ok(CoreFront::Entries { place: _, messages }) => messages.as_slice(),
         _ => &[],
@@ -133,21 +145,34 @@ fn messages_of(front: &Result<CoreFront, NoMemory>) -> &[Message] {
 }
 
 // When it was received, in microseconds since 1970.
-fn received_at(message: Option<&Message>) -> Option<i64> {
+fn received_at(message: Option<&Message>) -> Option<i64>
+    ensures { result ≡ option_map (λ m. m.received.at) (option_copied message.entry) }
+{
     Some(message?.received().at)
 }
 
-fn list_dests(records: &[Admission], dests: &mut Vec<u32>) -> Result<(), NoMemory> {
+fn list_offers(offers: &[Offer], dests: &mut Vec<u32>) -> Result<(), NoMemory>
+    ensures { OnOk result (dests.new.items ≡ dests.old.items ++ map (λ o. o.dest) offers.now) }
+{
+    for offer in offers {
+        dests.push(offer.dest)?;
+    }
+    Ok(())
+}
+
+fn list_dests(records: &[Admission], dests: &mut Vec<u32>) -> Result<(), NoMemory>
+    ensures { OnOk result (dests.new.items ≡ dests.old.items ++ dests_of records.now) }
+{
     for record in records {
-        for offer in record.offers.as_slice() {
-            dests.push(offer.dest)?;
-        }
+        list_offers(record.offers.as_slice(), dests)?;
     }
     Ok(())
 }
 
 // With one more verdict.
-fn counted(offered: Offered, verdict: Verdict) -> Offered {
+fn counted(offered: Offered, verdict: Verdict) -> Offered
+    ensures { result ≡ counted offered verdict }
+{
     match verdict {
         Verdict::DroppedFull => Offered {
             kept: offered.kept,
@@ -167,17 +192,38 @@ fn counted(offered: Offered, verdict: Verdict) -> Offered {
     }
 }
 
-// Room for so many destinations, where there is memory.
-fn room_for(dest: usize, offered: &mut Vec<Offered>) -> Result<(), NoMemory> {
+// A place for this destination, where it may have one and there is memory.
+fn place_for(dest: usize, offered: &mut Vec<Offered>) -> Result<(), NoMemory>
+    ensures place { OnOk result (dest < 128 → dest < length offered.new.items) }
+    ensures none { OnErr result (length offered.new.items ≤ dest) }
+    ensures longer { length offered.old.items ≤ length offered.new.items }
+    ensures same { (d : ℕ)
+        → offered_to d offered.new.items ≡ offered_to d offered.old.items }
+{
     for _more in offered.len()..dest.saturating_add(1).min(128) {
         offered.push(Offered::none())?;
     }
     Ok(())
 }
 
-fn count(dest: usize, verdict: Verdict, offered: &mut Vec<Offered>) {
-    if room_for(dest, offered).is_err() || dest >= offered.len() {
-        return;
+// With the verdict on one more offer to this destination. It isn't counted where it may have no place, or
+// where there is no memory for one.
+fn count(dest: usize, verdict: Verdict, offered: &mut Vec<Offered>) -> Result<(), NoMemory>
+    ensures counts { CountsOffer dest verdict offered.old.items offered.new.items }
+    ensures place { OnOk result (dest < 128 → dest < length offered.new.items) }
+{
+    place_for(dest, offered)?;
+    if dest < offered.len() {
+        offered[dest] = counted(offered[dest], verdict);
     }
-    offered[dest] = counted(offered[dest], verdict);
+    Ok(())
+}
+
+// With the verdicts on offers to these destinations, one after another.
+fn count_all(dests: &[u32], verdicts: &[Verdict], offered: &mut Vec<Offered>)
+    ensures { CountsOffers dests.now verdicts.now offered.old.items offered.new.items }
+{
+    for at in 0..dests.len().min(verdicts.len()) {
+        let _ = count(dests[at] as usize, verdicts[at], offered);
+    }
 }

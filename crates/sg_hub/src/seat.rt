@@ -6,6 +6,7 @@ ghost use Rattle.sg_standing.specs.States.{setup_of};
 ghost use Rattle.sg_counter.specs.Bringing.{records_back};
 ghost use Rattle.sg_counter.specs.declared.calls.CoreCall.{CoreCall as ACall};
 ghost use Rattle.sg_counter.specs.declared.calls.CoreReply.{CoreReply as AReply};
+ghost use Rattle.sg_hub.specs.Counts.{CountsSettled};
 ghost use Rattle.sg_hub.specs.Offices.{MayServe};
 ghost use Rattle.sg_hub.specs.Seats.{SeatStep};
 
@@ -143,6 +144,7 @@ fn store_at<T: Wait, D: Disk>(hub: &Hub<D>, rt: &T, seat: &mut Seat<D>, i: u32) 
 impl<'a, D: Disk> Counter for HubSeat<'a, D> {
     ghost use Rattle.std.specs.Prelude.{◌≡◌};
     ghost use Rattle.sg_standing.specs.States.{setup_of};
+    ghost use Rattle.sg_hub.specs.Counts.{CountsCall};
     ghost use Rattle.sg_hub.specs.Seats.{SeatStep};
 
     ghost setup = { λ s. setup_of s.hub.now.made };
@@ -151,7 +153,8 @@ impl<'a, D: Disk> Counter for HubSeat<'a, D> {
 
     ghost step = { λ old call reply new. (new.seat.ghost_name ≡ old.seat.ghost_name)
         × (new.passed.ghost_name ≡ old.passed.ghost_name) × (new.hub ≡ old.hub)
-        × SeatStep old.hub.now old.seat.now call reply new.seat.now };
+        × SeatStep old.hub.now old.seat.now call reply new.seat.now
+        × CountsCall call reply old.passed.now new.passed.now };
 
     fn credit<T: Wait>(&mut self, rt: &T, i: u32) -> u64 {
         let credit = credit_at(self.hub, rt, self.seat, i);
@@ -167,11 +170,13 @@ impl<'a, D: Disk> Counter for HubSeat<'a, D> {
         records: Vec<Admission>,
     ) -> Result<Vec<Verdict>, Refused> {
         self.passed.begin(&records);
-        let admitted = admit_at(self.hub, rt, self.seat, i, records);
-        if let Ok(verdicts) = &admitted {
-            self.passed.end(verdicts);
+        match admit_at(self.hub, rt, self.seat, i, records) {
+            Ok(verdicts) => {
+                self.passed.end(&verdicts);
+                Ok(verdicts)
+            }
+            Err(refused) => Err(refused),
         }
-        admitted
     }
 
     fn front<T: Wait>(
@@ -207,7 +212,8 @@ impl<'a, D: Disk, O: Outlet> Settler<O> for HubSeat<'a, D> {
             × (self.new.passed.ghost_name ≡ self.old.passed.ghost_name)
             × (self.new.hub ≡ self.old.hub)
             × SeatStep self.old.hub.now self.old.seat.now
-            (ACall.Settle d place n (count_of taken)) (AReply.Settled result) self.new.seat.now }
+            (ACall.Settle d place n (count_of taken)) (AReply.Settled result) self.new.seat.now
+            × CountsSettled result n self.old.passed.now self.new.passed.now }
         ensures setup { setup_of self.new.hub.now.made ≡ setup_of self.old.hub.now.made }
         ensures left { self.old.seat.now.left ≤ self.new.seat.now.left + 1 }
     {
