@@ -12,8 +12,12 @@ use sg_list::Seq;
 use sg_machine::Admission;
 use std::alloc::Global;
 
-/// The bytes that a pull brings at most.
-const PIECE: usize = 65_536;
+/// The bytes that a pull of a file brings at most.
+const FILE_PIECE: usize = 65_536;
+
+/// The bytes that a pull of a connection brings at most. Of many connections one after another is dealt
+/// with: the more each brings, the less of it is still in a processor's cache at its next turn.
+const CONNECTION_PIECE: usize = 16_384;
 
 /// What a source keeps of its inlet between two turns.
 pub struct Reader {
@@ -49,12 +53,19 @@ impl Drop for Reader {
     }
 }
 
-/// Room for what a pull brings. A function of its own: the list of 65,536 zeros is kept out of the
-/// other proofs.
-pub(crate) fn make_buffer(alloc: Global) -> Result<Vec<u8>, NoMemory>
+// A function of its own: the list of so many zeros is kept out of the other proofs.
+fn zeros(alloc: Global, len: usize) -> Result<Vec<u8>, NoMemory>
+    requires { 0 < len }
     ensures { IfOk result (λ buffer. 0 < length buffer.items) }
 {
-    vec![in alloc; 0u8; PIECE]
+    vec![in alloc; 0u8; len]
+}
+
+/// Room for what a pull brings: of a file where there is a position store, else of a connection.
+pub(crate) fn make_buffer(alloc: Global, stored: bool) -> Result<Vec<u8>, NoMemory>
+    ensures { IfOk result (λ buffer. 0 < length buffer.items) }
+{
+    zeros(alloc, if stored { FILE_PIECE } else { CONNECTION_PIECE })
 }
 
 /// A reader of an inlet that gave nothing yet.

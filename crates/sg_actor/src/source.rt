@@ -69,7 +69,7 @@ impl<R: Router + Drop, I: Inlet> SourceActor<R, I> {
         ensures spec { IfOk result (λ made. made.spec ≡ spec) }
         ensures back { IfErr result (λ e. e.0 ≡ inlet) }
     {
-        let buffer = match make_buffer(alloc) {
+        let buffer = match make_buffer(alloc, spec.stored) {
             Ok(buffer) => buffer,
             Err(e) => return Err((inlet, e)),
         };
